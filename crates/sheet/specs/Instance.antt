@@ -1,0 +1,48 @@
+-- What a planning sheet says, with nothing of how it is laid out. This is all that the crates above the reader know.
+use Prim.Native.Nat.{ℕ, _≤_, _<_}
+use mathlib.Core.Path.{_≡_}
+
+-- r services, s cabinets and q streams, and each field of a record by the record's number
+pub record Instance : Type 0 where
+  pub r : ℕ
+  pub s : ℕ
+  pub q : ℕ
+  -- of a service
+  pub demand : ℕ → ℕ
+  -- of a cabinet; "up" is the link direction from it to its parent, "down" the one from its parent to it
+  pub parent : ℕ → ℕ
+  pub capacity : ℕ → ℕ
+  pub price : ℕ → ℕ
+  pub up-capacity : ℕ → ℕ
+  pub up-price : ℕ → ℕ
+  pub down-capacity : ℕ → ℕ
+  pub down-price : ℕ → ℕ
+  -- of a stream: the services that it runs from and to, and its demand
+  pub from : ℕ → ℕ
+  pub to : ℕ → ℕ
+  pub load : ℕ → ℕ
+
+-- every number of a family is at most 10,000
+abbrev pub Amounts : (ℕ → ℕ) → Type 0
+Amounts f = (n : ℕ) → f n ≤ 10000
+
+-- What the reader promises of every accepted sheet.
+pub record WellFormed (I : Instance) : Type 0 where
+  pub services : I .r ≤ 10
+  pub some-cabinet : 1 ≤ I .s
+  pub cabinets : I .s ≤ 200
+  pub streams : I .q ≤ 100
+  pub demands : Amounts (I .demand)
+  pub parents : (c : ℕ) → 0 < c → I .parent c < c
+  pub capacities : Amounts (I .capacity)
+  pub prices : Amounts (I .price)
+  pub up-capacities : Amounts (I .up-capacity)
+  pub up-prices : Amounts (I .up-price)
+  pub down-capacities : Amounts (I .down-capacity)
+  pub down-prices : Amounts (I .down-price)
+  pub loads : Amounts (I .load)
+  pub from-service : (j : ℕ) → j < I .q → I .from j < I .r
+  pub to-service : (j : ℕ) → j < I .q → I .to j < I .r
+  pub ends-differ : (j : ℕ) → j < I .q → I .from j ≡ I .to j → ⊥
+  pub root-links :
+      (I .up-capacity 0 ≡ 0) × (I .up-price 0 ≡ 0) × (I .down-capacity 0 ≡ 0) × (I .down-price 0 ≡ 0)

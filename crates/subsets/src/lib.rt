@@ -1,0 +1,1 @@
+// Sets of services, and the least charge of placing them on a tree.
