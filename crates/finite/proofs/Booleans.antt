@@ -1,7 +1,7 @@
 -- Laws of Booleans: how a test that passed or failed is taken apart and put together.
 use Prim.Native.Nat.{ℕ}
 use native.Mathlib.Omega.{arith}
-use mathlib.Core.Path.{_≡_, refl, sym}
+use mathlib.Core.Path.{_≡_, refl, sym, _∙_}
 use mathlib.Core.Bool.{Bool, true, false, _&&_, _||_, not}
 use mathlib.Core.Logic.{_⊎_, inl, inr}
 use Rattle.finite.specs.Below.{_⇒_}
@@ -66,3 +66,20 @@ pub implied : (a b : Bool) → a ⇒ b ≡ true → a ≡ true → b ≡ true
 unfolding _⇒_
 implied true b h e = h
 implied false b h e = clash (sym e)
+
+-- one more test in a row: the value v of the tests before is kept where it is true, else the value is that of the test
+pub or-taken : (v a x : Bool) → v ≡ a → v ≡ true → v ≡ a || x
+or-taken v true x e t = e
+or-taken v false x e t = clash (sym t ∙ e)
+
+pub or-left : (v a x : Bool) → v ≡ a → v ≡ false → x ≡ a || x
+or-left v true x e t = clash (sym e ∙ t)
+or-left v false x e t = refl
+
+pub and-taken : (v a x : Bool) → v ≡ a → v ≡ true → x ≡ a && x
+and-taken v true x e t = refl
+and-taken v false x e t = clash (sym t ∙ e)
+
+pub and-left : (v a x : Bool) → v ≡ a → v ≡ false → v ≡ a && x
+and-left v true x e t = clash (sym e ∙ t)
+and-left v false x e t = e

@@ -59,7 +59,6 @@ unfolding sum-over
 sum-over-ext f g h [] = refl
 sum-over-ext f g h (x ∷ l) = omega (arith, h x, sum-over-ext f g h l)
 
-
 -- a sum is at most as great as one whose numbers are at least as great
 pub sum-mono : (n : ℕ) (f g : ℕ → ℕ) → ((d : ℕ) → d < n → f d ≤ g d) → sum-below n f ≤ sum-below n g
 unfolding sum-below

@@ -1,5 +1,6 @@
 -- Laws of tests over the numbers below n.
-use Prim.Native.Nat.{ℕ, zero, suc, _<_}
+use Prim.Native.Nat.{ℕ, zero, suc, _+_, _≤_, _<_}
+use native.Mathlib.Numerals.{add-one}
 use native.Mathlib.Omega.{arith}
 use mathlib.Core.Path.{_≡_, refl, sym, ap, ap₂, _∙_}
 use mathlib.Core.Bool.{Bool, true, false, _&&_, _||_, or-true}
@@ -59,3 +60,16 @@ none-at (suc n) p h d k = go (eqb d n) refl (none-at n p (neither-l (any-below n
     go : (t : Bool) → eqb d n ≡ t → (d < n → p d ≡ false) → p d ≡ false
     go true e ih = ap p (eqb-true d n e) ∙ neither-r (any-below n p) (p n) h
     go false e ih = let q : (d ≡ n → ⊥) = eqb-false d n e in ih (omega arith)
+
+-- a search that has passed n numbers without success, and then one more
+pub any-start : (p : ℕ → Bool) → any-below 0 p ≡ false
+unfolding any-below
+any-start p = refl
+
+pub any-next : (n : ℕ) (p : ℕ → Bool) → any-below n p ≡ false → p n ≡ false → any-below (n + 1) p ≡ false
+unfolding any-below
+any-next n p h e = rw add-one (neither (any-below n p) (p n) h e)
+
+-- a search that has passed all n numbers
+pub any-end : (n i : ℕ) (p : ℕ → Bool) → i ≤ n → n ≤ i → any-below i p ≡ false → false ≡ any-below n p
+any-end n i p h k e = sym (ap (λ (m : ℕ). any-below m p) (let q : n ≡ i = omega arith in q) ∙ e)

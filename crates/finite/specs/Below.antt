@@ -4,7 +4,6 @@ use mathlib.Core.Bool.{Bool, true, false, _&&_, _||_}
 use mathlib.Core.List.{List, [], _∷_}
 
 infixr 25 _⇒_
-
 -- the first test implies the second
 unfoldable pub _⇒_ : Bool → Bool → Bool
 _⇒_ true b = b

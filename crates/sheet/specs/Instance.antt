@@ -1,6 +1,11 @@
 -- What a planning sheet says, with nothing of how it is laid out. This is all that the crates above the reader know.
 use Prim.Native.Nat.{ℕ, _≤_, _<_}
 use mathlib.Core.Path.{_≡_}
+use mathlib.Core.List.{List}
+use lib.Dec.{ltb}
+use Rattle.finite.specs.Below.{only}
+use Rattle.sheet.specs.Limits.{max-services, max-cabinets, max-streams, max-amount}
+use Rattle.sheet.specs.Layout.{header, service, cabinet, stream}
 
 -- r services, s cabinets and q streams, and each field of a record by the record's number
 pub record Instance : Type 0 where
@@ -22,16 +27,36 @@ pub record Instance : Type 0 where
   pub to : ℕ → ℕ
   pub load : ℕ → ℕ
 
+-- the instance of a sheet; a field of a record that isn't there is 0
+unfoldable pub instance : List ℕ → Instance
+instance bytes =
+    record {
+      r = header bytes .services;
+      s = header bytes .cabinets;
+      q = header bytes .streams;
+      demand = λ i. only (ltb i (header bytes .services)) (service (header bytes) bytes i .demand);
+      parent = λ c. only (ltb c (header bytes .cabinets)) (cabinet (header bytes) bytes c .parent);
+      capacity = λ c. only (ltb c (header bytes .cabinets)) (cabinet (header bytes) bytes c .capacity);
+      price = λ c. only (ltb c (header bytes .cabinets)) (cabinet (header bytes) bytes c .price);
+      up-capacity = λ c. only (ltb c (header bytes .cabinets)) (cabinet (header bytes) bytes c .«up_capacity»);
+      up-price = λ c. only (ltb c (header bytes .cabinets)) (cabinet (header bytes) bytes c .«up_price»);
+      down-capacity = λ c. only (ltb c (header bytes .cabinets)) (cabinet (header bytes) bytes c .«down_capacity»);
+      down-price = λ c. only (ltb c (header bytes .cabinets)) (cabinet (header bytes) bytes c .«down_price»);
+      from = λ j. only (ltb j (header bytes .streams)) (stream (header bytes) bytes j .from);
+      to = λ j. only (ltb j (header bytes .streams)) (stream (header bytes) bytes j .to);
+      load = λ j. only (ltb j (header bytes .streams)) (stream (header bytes) bytes j .demand);
+    }
+
 -- every number of a family is at most 10,000
 abbrev pub Amounts : (ℕ → ℕ) → Type 0
-Amounts f = (n : ℕ) → f n ≤ 10000
+Amounts f = (n : ℕ) → f n ≤ max-amount
 
--- What the reader promises of every accepted sheet.
+-- what the reader promises of the instance of every accepted sheet
 pub record WellFormed (I : Instance) : Type 0 where
-  pub services : I .r ≤ 10
+  pub services : I .r ≤ max-services
   pub some-cabinet : 1 ≤ I .s
-  pub cabinets : I .s ≤ 200
-  pub streams : I .q ≤ 100
+  pub cabinets : I .s ≤ max-cabinets
+  pub streams : I .q ≤ max-streams
   pub demands : Amounts (I .demand)
   pub parents : (c : ℕ) → 0 < c → I .parent c < c
   pub capacities : Amounts (I .capacity)

@@ -1,2 +1,8 @@
--- What a planning sheet is: 01's section "The planning sheet" and the reader's refusals.
+-- What a planning sheet is: 01's section "The planning sheet" and the reader's refusals. To be read in this order.
+pub mod Limits
+pub mod Layout
+pub mod Conditions
+pub mod Refusals
+pub mod Reading
 pub mod Instance
+pub mod Records

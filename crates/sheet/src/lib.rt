@@ -1,1 +1,208 @@
-// The reader of planning sheets.
+// The reader of planning sheets: any bytes get the counts and records of a sheet, or one refusal.
+ghost use mathlib.Core.Path.{_≡_};
+ghost use Rattle.sheet.specs.Reading.{reading};
+ghost use Rattle.sheet.specs.Records.{service-record, cabinet-record, stream-record};
+ghost use Rattle.sheet.specs.Refusals.{number-of};
+
+mod blocks; // blocks.rt: where the three blocks lie
+mod conditions; // conditions.rt: the conditions of refusals 6 to 9 over all records
+mod records; // records.rt: words, the header, and one record of a block
+
+use blocks::any_outside;
+use blocks::any_share;
+use conditions::is_amount_too_high;
+use conditions::is_beyond_limits;
+use conditions::is_end_wrong;
+use conditions::is_parent_wrong;
+use conditions::is_root_linked;
+use records::is_there;
+use records::read_cabinet;
+use records::read_header;
+use records::read_service;
+use records::read_stream;
+use records::word;
+
+// Who can cause a refusal, with the refusal's number.
+pub enum Refusal {
+    SheetWriter(u16),
+    Lender(u16),
+    Road(u16),
+    PlanWriter(u16),
+}
+
+// An accepted sheet: what the record calls need to find a record in its bytes.
+pub struct Sheet {
+    services: usize,
+    cabinets: usize,
+    streams: usize,
+    services_at: usize,
+    cabinets_at: usize,
+    streams_at: usize,
+}
+
+// What reading answers.
+pub enum Reading {
+    Accepted(Sheet),
+    Refused(Refusal),
+}
+
+pub struct Service {
+    pub demand: u64,
+}
+
+// "Up" runs from the cabinet to its parent, "down" from the parent to it.
+pub struct Cabinet {
+    pub parent: usize,
+    pub capacity: u64,
+    pub price: u64,
+    pub up_capacity: u64,
+    pub up_price: u64,
+    pub down_capacity: u64,
+    pub down_price: u64,
+}
+
+// From one service to another.
+pub struct Stream {
+    pub from: usize,
+    pub to: usize,
+    pub demand: u64,
+}
+
+pub enum ServiceRecord {
+    Given(Service),
+    Missing,
+}
+
+pub enum CabinetRecord {
+    Given(Cabinet),
+    Missing,
+}
+
+pub enum StreamRecord {
+    Given(Stream),
+    Missing,
+}
+
+// Bytes of the sheet that hold the records of one kind.
+struct Block {
+    at: usize,
+    size: usize,
+}
+
+// Reads a sheet: accepted exactly when no refusal applies, else refused with the lowest.
+pub fn read(bytes: &[u8]) -> Reading
+    ensures { λ r. ⌜ r ≡ reading (now (bytes .entry)) ⌝ }
+{
+    if bytes.len() < Sheet::HEADER {
+        return Reading::Refused(Refusal::SheetWriter(1));
+    }
+    let sheet = read_header(bytes);
+    if is_beyond_limits(bytes, sheet) {
+        return Reading::Refused(Refusal::SheetWriter(2));
+    }
+    if word(bytes, 12) as usize != bytes.len() {
+        return Reading::Refused(Refusal::SheetWriter(3));
+    }
+    if any_outside(sheet, bytes.len()) {
+        return Reading::Refused(Refusal::SheetWriter(4));
+    }
+    if any_share(sheet) {
+        return Reading::Refused(Refusal::SheetWriter(5));
+    }
+    if is_amount_too_high(bytes, sheet) {
+        return Reading::Refused(Refusal::SheetWriter(6));
+    }
+    if is_parent_wrong(bytes, sheet) {
+        return Reading::Refused(Refusal::SheetWriter(7));
+    }
+    if is_end_wrong(bytes, sheet) {
+        return Reading::Refused(Refusal::SheetWriter(8));
+    }
+    if is_root_linked(bytes, sheet) {
+        return Reading::Refused(Refusal::SheetWriter(9));
+    }
+    Reading::Accepted(sheet)
+}
+
+impl Refusal {
+    pub fn number(self) -> u16
+        ensures { λ n. ⌜ n ≡ number-of self ⌝ }
+    {
+        match self {
+            Refusal::SheetWriter(n) => n,
+            Refusal::Lender(n) => n,
+            Refusal::Road(n) => n,
+            Refusal::PlanWriter(n) => n,
+        }
+    }
+}
+
+impl Sheet {
+    pub const MAX_SERVICES: usize = 10;
+
+    pub const MAX_CABINETS: usize = 200;
+
+    pub const MAX_STREAMS: usize = 100;
+
+    pub const MAX_AMOUNT: u64 = 10000;
+
+    // Bytes of the header, and of one record of each kind.
+    const HEADER: usize = 16;
+
+    const SERVICE: usize = 2;
+
+    const CABINET: usize = 14;
+
+    const STREAM: usize = 6;
+
+    pub fn services(self) -> usize
+        ensures { λ n. ⌜ n ≡ self .services ⌝ }
+    {
+        self.services
+    }
+
+    pub fn cabinets(self) -> usize
+        ensures { λ n. ⌜ n ≡ self .cabinets ⌝ }
+    {
+        self.cabinets
+    }
+
+    pub fn streams(self) -> usize
+        ensures { λ n. ⌜ n ≡ self .streams ⌝ }
+    {
+        self.streams
+    }
+
+    // Service i; nothing where the sheet has none, or the bytes end before it does.
+    pub fn service(self, bytes: &[u8], i: usize) -> ServiceRecord
+        ensures { λ r. ⌜ r ≡ service-record self (now (bytes .entry)) i ⌝ }
+    {
+        let at = self.services_at;
+        if is_there(self.services, Sheet::SERVICE, at, bytes.len(), i) {
+            return ServiceRecord::Given(read_service(&bytes[at..], i));
+        }
+        ServiceRecord::Missing
+    }
+
+    // Cabinet c, in the same way.
+    pub fn cabinet(self, bytes: &[u8], c: usize) -> CabinetRecord
+        ensures { λ r. ⌜ r ≡ cabinet-record self (now (bytes .entry)) c ⌝ }
+    {
+        let at = self.cabinets_at;
+        if is_there(self.cabinets, Sheet::CABINET, at, bytes.len(), c) {
+            return CabinetRecord::Given(read_cabinet(&bytes[at..], c));
+        }
+        CabinetRecord::Missing
+    }
+
+    // Stream j, in the same way.
+    pub fn stream(self, bytes: &[u8], j: usize) -> StreamRecord
+        ensures { λ r. ⌜ r ≡ stream-record self (now (bytes .entry)) j ⌝ }
+    {
+        let at = self.streams_at;
+        if is_there(self.streams, Sheet::STREAM, at, bytes.len(), j) {
+            return StreamRecord::Given(read_stream(&bytes[at..], j));
+        }
+        StreamRecord::Missing
+    }
+}

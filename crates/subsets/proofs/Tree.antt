@@ -70,8 +70,8 @@ module _ (p : ℕ → ℕ) where
     pub under-line : (c w d : ℕ) → under p c d ≡ true → under p w d ≡ true → c ≤ w → under p c w ≡ true
     under-line c w d h k l =
         under-ind c (λ (d : ℕ). under p w d ≡ true → under p c w ≡ true)
-          (λ k. subst (λ (z : ℕ). under p c z ≡ true) (let q : c ≡ w = omega (arith, under-le w c k) in q) (under-refl c))
-          (λ d z u ih k. go d (under-up c d z u) ih (under-cases w d k)) d h k
+        (λ k. subst (λ (z : ℕ). under p c z ≡ true) (let q : c ≡ w = omega (arith, under-le w c k) in q) (under-refl c))
+        (λ d z u ih k. go d (under-up c d z u) ih (under-cases w d k)) d h k
       where
         go : (d : ℕ) → under p c d ≡ true → (under p w (p d) ≡ true → under p c w ≡ true) → (d ≡ w) ⊎ ((w < d) × (under p w (p d) ≡ true)) → under p c w ≡ true
         go d u ih (inl e) = subst (λ (z : ℕ). under p c z ≡ true) e u

@@ -3,7 +3,6 @@ use Prim.Native.Nat.{ℕ, zero, suc, _+_, _≤_, min}
 use mathlib.Core.Bool.{Bool, true, false}
 
 infixl 65 _⊕_
-
 pub data Cost : Type 0 where
   none : Cost
   some : ℕ → Cost

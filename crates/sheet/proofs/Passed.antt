@@ -1,0 +1,78 @@
+-- What the code may rely on once a test has failed: counts within their limits, and blocks within the bytes.
+use Prim.Native.Nat.{ℕ, _+_, _*_, _≤_, _<_}
+use mathlib.Core.Path.{_≡_, refl}
+use mathlib.Core.Bool.{Bool, true, false, _||_, not}
+use mathlib.Core.List.{List}
+use lib.Dec.{eqb, ltb}
+use borrow.Author.Tests.{ltb-false}
+use Rattle.finite.proofs.Booleans.{clash, neither-l, neither-r}
+use Rattle.sheet.specs.Limits.{max-services, max-cabinets, max-streams}
+use Rattle.sheet.specs.Layout.{Bounded, Inside, eighth-word, service-block, cabinet-block, stream-block}
+use Rattle.sheet.specs.Conditions.{beyond-limits, outside, some-block-outside}
+use Rattle.sheet.specs.declared.Sheet.{Sheet}
+use Rattle.sheet.specs.declared.Block.{Block}
+
+-- the counts of a sheet that refusal 2 does not apply to
+pub record Counted (h : Sheet) : Type 0 where
+  pub services : h .services ≤ max-services
+  pub some-cabinet : 1 ≤ h .cabinets
+  pub cabinets : h .cabinets ≤ max-cabinets
+  pub streams : h .streams ≤ max-streams
+
+-- five tests that all fail
+none-of-five : (p q r s t : Bool) → p || q || r || s || t ≡ false → (p ≡ false) × (q ≡ false) × (r ≡ false) × (s ≡ false) × (t ≡ false)
+none-of-five false false false false t e = (refl, refl, refl, refl, e)
+none-of-five false false false true t e = clash e
+none-of-five false false true s t e = clash e
+none-of-five false true r s t e = clash e
+none-of-five true q r s t e = clash e
+
+pub counted : (h : Sheet) (bytes : List ℕ) → beyond-limits h bytes ≡ false → Counted h
+unfolding beyond-limits
+counted h bytes e =
+    let f =
+    none-of-five
+    (ltb max-services (h .services))
+    (ltb (h .cabinets) 1)
+    (ltb max-cabinets (h .cabinets))
+    (ltb max-streams (h .streams))
+    (not (eqb (eighth-word bytes) 0))
+    e in
+    record {
+      services = ltb-false _ _ (f .0);
+      some-cabinet = ltb-false _ _ (f .1);
+      cabinets = ltb-false _ _ (f .2);
+      streams = ltb-false _ _ (f .3);
+    }
+
+pub bounded : (h : Sheet) → Counted h → h .«services_at» < 65536 → h .«cabinets_at» < 65536 → h .«streams_at» < 65536 → Bounded h
+bounded h k a b c =
+    record {
+      services = k .services;
+      cabinets = k .cabinets;
+      streams = k .streams;
+      services-at = a;
+      cabinets-at = b;
+      streams-at = c;
+    }
+
+-- a block that refusal 4 does not apply to
+pub fits : (len : ℕ) (b : Block) → outside len b ≡ false → (16 ≤ b .at) × (b .at + b .size ≤ len)
+unfolding outside
+fits len b e = (
+  ltb-false _ _ (neither-l (ltb (b .at) 16) (ltb len (b .at + b .size)) e),
+  ltb-false _ _ (neither-r (ltb (b .at) 16) (ltb len (b .at + b .size)) e),
+)
+
+pub inside : (h : Sheet) (len : ℕ) → Counted h → some-block-outside h len ≡ false → Inside h len
+unfolding some-block-outside service-block cabinet-block stream-block
+inside h len k e =
+    let first = outside len (service-block h) in
+    let second = outside len (cabinet-block h) in
+    let third = outside len (stream-block h) in
+    record {
+      services = fits len (service-block h) (neither-l first second (neither-l (first || second) third e)) .1;
+      cabinets = fits len (cabinet-block h) (neither-r first second (neither-l (first || second) third e)) .1;
+      streams = fits len (stream-block h) (neither-r (first || second) third e) .1;
+      root = k .some-cabinet;
+    }

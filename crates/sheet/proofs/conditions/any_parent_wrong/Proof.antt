@@ -1,0 +1,69 @@
+use Prim.Native.Nat.{ℕ, _≤_, _-_}
+use mathlib.Core.Path.{_≡_, refl, sym, ap, _∙_, subst}
+use mathlib.Core.Bool.{Bool, true, false}
+use native.Mathlib.Omega.{arith}
+use borrow.Author.Needs.{needs}
+use borrow.Author.Tests.{lt-ltb, le-ltb}
+use Rattle.finite.specs.Below.{any-below}
+use Rattle.finite.proofs.Tests.{any-in, any-start, any-next, any-end}
+use Rattle.sheet.specs.Layout.{cabinet-in}
+use Rattle.sheet.specs.Conditions.{wrong-parent}
+use Rattle.sheet.proofs.conditions.any_parent_wrong.Statement.{statement}
+use Rattle.sheet.proofs.conditions.any_parent_wrong.Tie as tie
+use Rattle.sheet.proofs.conditions.any_parent_wrong.Reads as reads
+use Rattle.sheet.proofs.conditions.any_parent_wrong.Lts as lts
+use Rattle.sheet.proofs.conditions.is_wrong_parent.Reads as is-wrong-parent-reads
+use Rattle.sheet.proofs.records.read_cabinet.Reads as read-cabinet-reads
+
+abbrev Inv-loop : tie.InvT-loop
+Inv-loop block count c₀ c = (c ≤ count) × (any-below c (λ k. wrong-parent k (cabinet-in block k)) ≡ false)
+
+abbrev μ-loop : tie.MeasureT-loop
+μ-loop block count c₀ c = count - c
+
+-- src/conditions.rt:93:5
+loop-holds : tie.Need-loop-holds Inv-loop μ-loop
+loop-holds c = (search needs, any-start _)
+
+-- src/conditions.rt:94:31
+read-cabinet-requires : tie.Need-read-cabinet-requires Inv-loop μ-loop
+read-cabinet-requires c κs = search needs
+
+-- src/conditions.rt:94:12
+is-wrong-parent-requires : tie.Need-is-wrong-parent-requires Inv-loop μ-loop
+is-wrong-parent-requires c κs = search needs
+
+-- src/conditions.rt:95:13
+returns : tie.Need-returns Inv-loop μ-loop
+returns c = sym (any-in _ _ (c .before .before .before .before .loop .c) (search needs) ((cc)))
+
+-- src/conditions.rt:97:9
+add-c : tie.Need-add-c Inv-loop μ-loop
+add-c c = search needs
+
+-- src/conditions.rt:93:5
+loop-less : tie.Need-loop-less Inv-loop μ-loop
+loop-less c = search needs
+
+-- src/conditions.rt:93:5
+loop-again : tie.Need-loop-again Inv-loop μ-loop
+loop-again c = (search needs, any-next _ _ (c .before .before .before .before .loop .inv .1) ((cc)))
+
+-- src/conditions.rt:88:1
+returns-2 : tie.Need-returns-2 Inv-loop μ-loop
+returns-2 c = any-end _ _ _ (search needs) (search needs) (c .before .loop .inv .1)
+
+pub any-parent-wrong-spec : {M : Type 1} → statement M
+any-parent-wrong-spec =
+    tie.close
+    (tie.spec
+    Inv-loop
+    μ-loop
+    loop-holds
+    read-cabinet-requires
+    is-wrong-parent-requires
+    returns
+    add-c
+    loop-less
+    loop-again
+    returns-2)

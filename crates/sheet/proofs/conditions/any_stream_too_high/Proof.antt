@@ -1,0 +1,63 @@
+use Prim.Native.Nat.{ℕ, _≤_, _-_}
+use mathlib.Core.Path.{_≡_, refl, sym, ap, _∙_, subst}
+use mathlib.Core.Bool.{Bool, true, false}
+use native.Mathlib.Omega.{arith}
+use borrow.Author.Needs.{needs}
+use borrow.Author.Tests.{lt-ltb, le-ltb}
+use Rattle.finite.specs.Below.{any-below}
+use Rattle.finite.proofs.Tests.{any-in, any-start, any-next, any-end}
+use Rattle.sheet.specs.Layout.{stream-in}
+use Rattle.sheet.specs.Conditions.{too-high}
+use Rattle.sheet.proofs.conditions.any_stream_too_high.Statement.{statement}
+use Rattle.sheet.proofs.conditions.any_stream_too_high.Tie as tie
+use Rattle.sheet.proofs.conditions.any_stream_too_high.Reads as reads
+use Rattle.sheet.proofs.conditions.any_stream_too_high.Lts as lts
+use Rattle.sheet.proofs.records.read_stream.Reads as read-stream-reads
+
+abbrev Inv-loop : tie.InvT-loop
+Inv-loop block count j₀ j = (j ≤ count) × (any-below j (λ k. too-high (stream-in block k .demand)) ≡ false)
+
+abbrev μ-loop : tie.MeasureT-loop
+μ-loop block count j₀ j = count - j
+
+-- src/conditions.rt:78:5
+loop-holds : tie.Need-loop-holds Inv-loop μ-loop
+loop-holds c = (search needs, any-start _)
+
+-- src/conditions.rt:79:13
+read-stream-requires : tie.Need-read-stream-requires Inv-loop μ-loop
+read-stream-requires c κs = search needs
+
+-- src/conditions.rt:81:13
+returns : tie.Need-returns Inv-loop μ-loop
+returns c = sym (any-in _ _ (c .before .before .before .before .loop .j) (search needs) (cc (lt-ltb _ _ (c .if1 .taken))))
+
+-- src/conditions.rt:83:9
+add-j : tie.Need-add-j Inv-loop μ-loop
+add-j c = search needs
+
+-- src/conditions.rt:78:5
+loop-less : tie.Need-loop-less Inv-loop μ-loop
+loop-less c = search needs
+
+-- src/conditions.rt:78:5
+loop-again : tie.Need-loop-again Inv-loop μ-loop
+loop-again c = (search needs, any-next _ _ (c .before .before .before .before .loop .inv .1) (cc (le-ltb _ _ (c .if1 .left))))
+
+-- src/conditions.rt:73:1
+returns-2 : tie.Need-returns-2 Inv-loop μ-loop
+returns-2 c = any-end _ _ _ (search needs) (search needs) (c .before .loop .inv .1)
+
+pub any-stream-too-high-spec : {M : Type 1} → statement M
+any-stream-too-high-spec =
+    tie.close
+    (tie.spec
+    Inv-loop
+    μ-loop
+    loop-holds
+    read-stream-requires
+    returns
+    add-j
+    loop-less
+    loop-again
+    returns-2)

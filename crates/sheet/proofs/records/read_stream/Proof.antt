@@ -1,0 +1,41 @@
+use Rattle.sheet.specs.Layout.{stream-in}
+use borrow.Author.Needs.{needs}
+use Rattle.sheet.proofs.records.read_stream.Statement.{statement}
+use Rattle.sheet.proofs.records.read_stream.Tie as tie
+use Rattle.sheet.proofs.records.read_stream.Reads as reads
+use Rattle.sheet.proofs.records.read_stream.Lts as lts
+use Rattle.sheet.proofs.records.word.Reads as word-reads
+
+-- src/records.rt:67:14
+mul-at : tie.Need-mul-at
+mul-at c = search needs
+
+-- src/records.rt:69:15
+word-requires : tie.Need-word-requires
+word-requires c κs = search needs
+
+-- src/records.rt:70:25
+add-word : tie.Need-add-word
+add-word c = search needs
+
+-- src/records.rt:70:13
+word-requires-2 : tie.Need-word-requires-2
+word-requires-2 c κs = search needs
+
+-- src/records.rt:71:29
+add-word-2 : tie.Need-add-word-2
+add-word-2 c = search needs
+
+-- src/records.rt:71:17
+word-requires-3 : tie.Need-word-requires-3
+word-requires-3 c κs = search needs
+
+-- src/records.rt:63:1
+returns : tie.Need-returns
+unfolding stream-in
+returns c = cc
+
+pub read-stream-spec : {M : Type 1} → statement M
+read-stream-spec =
+    tie.close
+    (tie.spec mul-at word-requires add-word word-requires-2 add-word-2 word-requires-3 returns)

@@ -1,0 +1,95 @@
+-- The condition of each of the reader's refusals, 1 to 9 of 01's section "Who can cause a refusal".
+use Prim.Native.Nat.{ℕ, _+_}
+use mathlib.Core.Bool.{Bool, _&&_, _||_, not, cond}
+use mathlib.Core.List.{List}
+use lib.ListN.{length}
+use lib.Dec.{eqb, ltb, leb}
+use Rattle.finite.specs.Below.{any-below}
+use Rattle.sheet.specs.Limits.{max-services, max-cabinets, max-streams, max-amount}
+use Rattle.sheet.specs.Layout.{length-word, eighth-word, service, cabinet, stream, service-block, cabinet-block, stream-block}
+use Rattle.sheet.specs.declared.Sheet.{Sheet}
+use Rattle.sheet.specs.declared.Block.{Block}
+use Rattle.sheet.specs.declared.Cabinet.{Cabinet}
+use Rattle.sheet.specs.declared.Stream.{Stream}
+
+-- 1: fewer than 16 bytes
+abbrev pub too-short : List ℕ → Bool
+too-short bytes = ltb (length bytes) 16
+
+-- 2: r, s or q outside its limits, or the eighth word not 0
+unfoldable pub beyond-limits : Sheet → List ℕ → Bool
+beyond-limits h bytes =
+    ltb max-services (h .services)
+    || ltb (h .cabinets) 1
+    || ltb max-cabinets (h .cabinets)
+    || ltb max-streams (h .streams)
+    || not (eqb (eighth-word bytes) 0)
+
+-- 3: the length word is not the sheet's length
+abbrev pub wrong-length : List ℕ → Bool
+wrong-length bytes = not (eqb (length-word bytes) (length bytes))
+
+-- 4: a block's offset is below 16, or the block ends past the length
+unfoldable pub outside : ℕ → Block → Bool
+outside len b = ltb (b .at) 16 || ltb len (b .at + b .size)
+
+unfoldable pub some-block-outside : Sheet → ℕ → Bool
+some-block-outside h len =
+    outside len (service-block h) || outside len (cabinet-block h) || outside len (stream-block h)
+
+-- 5: two blocks share a byte
+unfoldable pub holds : Block → ℕ → Bool
+holds b byte = leb (b .at) byte && ltb byte (b .at + b .size)
+
+unfoldable pub share : Block → Block → Bool
+share a b = any-below (a .size) (λ i. holds b (a .at + i))
+
+unfoldable pub some-blocks-share : Sheet → Bool
+some-blocks-share h =
+    share (service-block h) (cabinet-block h)
+    || share (service-block h) (stream-block h)
+    || share (cabinet-block h) (stream-block h)
+
+-- 6: a demand, capacity or price above 10,000
+abbrev pub too-high : ℕ → Bool
+too-high amount = ltb max-amount amount
+
+unfoldable pub cabinet-too-high : Cabinet → Bool
+cabinet-too-high k =
+    too-high (k .capacity)
+    || too-high (k .price)
+    || too-high (k .«up_capacity»)
+    || too-high (k .«up_price»)
+    || too-high (k .«down_capacity»)
+    || too-high (k .«down_price»)
+
+unfoldable pub some-amount-too-high : Sheet → List ℕ → Bool
+some-amount-too-high h bytes =
+    any-below (h .services) (λ i. too-high (service h bytes i .demand))
+    || any-below (h .cabinets) (λ c. cabinet-too-high (cabinet h bytes c))
+    || any-below (h .streams) (λ j. too-high (stream h bytes j .demand))
+
+-- 7: a wrong parent: cabinet 0's is 65535, any other's is a smaller cabinet number
+unfoldable pub wrong-parent : ℕ → Cabinet → Bool
+wrong-parent c k = cond (eqb c 0) (not (eqb (k .parent) 65535)) (leb c (k .parent))
+
+unfoldable pub some-parent-wrong : Sheet → List ℕ → Bool
+some-parent-wrong h bytes = any-below (h .cabinets) (λ c. wrong-parent c (cabinet h bytes c))
+
+-- 8: a stream end is not below r, or both ends are the same
+unfoldable pub wrong-ends : ℕ → Stream → Bool
+wrong-ends r t = leb r (t .from) || leb r (t .to) || eqb (t .from) (t .to)
+
+unfoldable pub some-ends-wrong : Sheet → List ℕ → Bool
+some-ends-wrong h bytes = any-below (h .streams) (λ j. wrong-ends (h .services) (stream h bytes j))
+
+-- 9: a link field of cabinet 0 is not 0
+unfoldable pub linked : Cabinet → Bool
+linked k =
+    not (eqb (k .«up_capacity») 0)
+    || not (eqb (k .«up_price») 0)
+    || not (eqb (k .«down_capacity») 0)
+    || not (eqb (k .«down_price») 0)
+
+unfoldable pub root-linked : Sheet → List ℕ → Bool
+root-linked h bytes = linked (cabinet h bytes 0)

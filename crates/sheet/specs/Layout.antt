@@ -1,0 +1,96 @@
+-- How a sheet is laid out: words, the header, the three blocks, and the records in them.
+use Prim.Native.Nat.{ℕ, _+_, _*_, _≤_, _<_}
+use mathlib.Core.List.{List}
+use lib.ListN.{getD, drop}
+use Rattle.sheet.specs.Limits.{max-services, max-cabinets, max-streams}
+use Rattle.sheet.specs.declared.Sheet.{Sheet}
+use Rattle.sheet.specs.declared.Block.{Block}
+use Rattle.sheet.specs.declared.Service.{Service}
+use Rattle.sheet.specs.declared.Cabinet.{Cabinet}
+use Rattle.sheet.specs.declared.Stream.{Stream}
+
+-- the 16-bit word that starts at a byte, low byte first
+abbrev pub word-at : List ℕ → ℕ → ℕ
+word-at part at = getD part at 0 + 256 * getD part (at + 1) 0
+
+-- the first six words of the header: r, s and q, and the offsets of the service, cabinet and stream blocks
+unfoldable pub header : List ℕ → Sheet
+header bytes =
+    record {
+      services = word-at bytes 0;
+      cabinets = word-at bytes 2;
+      streams = word-at bytes 4;
+      «services_at» = word-at bytes 6;
+      «cabinets_at» = word-at bytes 8;
+      «streams_at» = word-at bytes 10;
+    }
+
+-- the seventh word: the sheet's length in bytes
+abbrev pub length-word : List ℕ → ℕ
+length-word bytes = word-at bytes 12
+
+-- the eighth word
+abbrev pub eighth-word : List ℕ → ℕ
+eighth-word bytes = word-at bytes 14
+
+-- a block is read as the part of the sheet that starts at its offset
+abbrev pub part-from : ℕ → List ℕ → List ℕ
+part-from at bytes = drop at bytes
+
+-- service i of a block, 2 bytes: its demand
+unfoldable pub service-in : List ℕ → ℕ → Service
+service-in block i = record { demand = word-at block (2 * i) }
+
+-- cabinet c of a block, 14 bytes: parent, capacity, price, up capacity, up price, down capacity, down price
+unfoldable pub cabinet-in : List ℕ → ℕ → Cabinet
+cabinet-in block c =
+    record {
+      parent = word-at block (14 * c);
+      capacity = word-at block (14 * c + 2);
+      price = word-at block (14 * c + 4);
+      «up_capacity» = word-at block (14 * c + 6);
+      «up_price» = word-at block (14 * c + 8);
+      «down_capacity» = word-at block (14 * c + 10);
+      «down_price» = word-at block (14 * c + 12);
+    }
+
+-- stream j of a block, 6 bytes: from, to, demand
+unfoldable pub stream-in : List ℕ → ℕ → Stream
+stream-in block j =
+    record { from = word-at block (6 * j); to = word-at block (6 * j + 2); demand = word-at block (6 * j + 4) }
+
+-- where each block lies: its offset, and as many bytes as its records take
+unfoldable pub service-block : Sheet → Block
+service-block h = record { at = h .«services_at»; size = 2 * h .services }
+
+unfoldable pub cabinet-block : Sheet → Block
+cabinet-block h = record { at = h .«cabinets_at»; size = 14 * h .cabinets }
+
+unfoldable pub stream-block : Sheet → Block
+stream-block h = record { at = h .«streams_at»; size = 6 * h .streams }
+
+-- counts within their limits, and offsets that are words: no sum of an offset and a size is too large for the code
+pub record Bounded (h : Sheet) : Type 0 where
+  pub services : h .services ≤ max-services
+  pub cabinets : h .cabinets ≤ max-cabinets
+  pub streams : h .streams ≤ max-streams
+  pub services-at : h .«services_at» < 65536
+  pub cabinets-at : h .«cabinets_at» < 65536
+  pub streams-at : h .«streams_at» < 65536
+
+-- every block lies within so many bytes, and there is a cabinet
+pub record Inside (h : Sheet) (len : ℕ) : Type 0 where
+  pub services : h .«services_at» + 2 * h .services ≤ len
+  pub cabinets : h .«cabinets_at» + 14 * h .cabinets ≤ len
+  pub streams : h .«streams_at» + 6 * h .streams ≤ len
+  pub root : 1 ≤ h .cabinets
+
+-- each record of a sheet by its number
+unfoldable pub service : Sheet → List ℕ → ℕ → Service
+service h bytes = service-in (part-from (h .«services_at») bytes)
+
+unfoldable pub cabinet : Sheet → List ℕ → ℕ → Cabinet
+cabinet h bytes = cabinet-in (part-from (h .«cabinets_at») bytes)
+
+unfoldable pub stream : Sheet → List ℕ → ℕ → Stream
+stream h bytes = stream-in (part-from (h .«streams_at») bytes)
