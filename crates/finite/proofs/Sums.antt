@@ -1,9 +1,10 @@
 -- Laws of sums over the numbers below n and over lists.
 use Prim.Native.Nat.{ℕ, zero, suc, _+_, _*_, _≤_, _<_}
 use native.Mathlib.Nat.{add-mul, zero-mul, zero-add, add-zero}
+use native.Mathlib.Decide.{le-ind}
 use native.Mathlib.Omega.{arith}
 use mathlib.Core.Path.{_≡_, refl, sym, ap, ap₂, _∙_}
-use mathlib.Core.Bool.{Bool, true, false}
+use mathlib.Core.Bool.{Bool, true, false, _&&_, not}
 use mathlib.Core.List.{List, [], _∷_}
 use lib.Dec.{eqb}
 use borrow.Author.Tests.{eqb-true, eqb-false, ne-eqb}
@@ -76,3 +77,58 @@ pub only-le : (b : Bool) (n : ℕ) → only b n ≤ n
 unfolding only
 only-le true n = omega arith
 only-le false n = omega arith
+
+-- the first place of a sum taken out
+pub sum-first : (n : ℕ) (f : ℕ → ℕ) → sum-below (suc n) f ≡ f 0 + sum-below n (λ d. f (suc d))
+unfolding sum-below
+sum-first zero f = omega arith
+sum-first (suc n) f = omega (arith, sum-first n f)
+
+-- an even and an odd place at a time
+pub sum-two : (n : ℕ) (f : ℕ → ℕ) → sum-below (n * 2) f ≡ sum-below n (λ d. f (d * 2) + f (d * 2 + 1))
+unfolding sum-below
+sum-two zero f = refl
+sum-two (suc n) f =
+    rw (let q : suc n * 2 ≡ suc (suc (n * 2)) = omega arith in q)
+    (omega (arith, sum-two n f, ap f (let q : suc (n * 2) ≡ n * 2 + 1 = omega arith in q)))
+
+-- a sum whose last places are zeros
+pub sum-more : (n m : ℕ) (f : ℕ → ℕ) → n ≤ m → ((d : ℕ) → n ≤ d → d < m → f d ≡ 0) → sum-below m f ≡ sum-below n f
+unfolding sum-below
+sum-more n m f l = le-ind (λ (m : ℕ). ((d : ℕ) → n ≤ d → d < m → f d ≡ 0) → sum-below m f ≡ sum-below n f)
+    (λ h. refl)
+    (λ m k ih h. omega (arith, ih (λ d i j. h d i (omega arith)), h m k (omega arith))) m l
+
+-- what passes two tests passes each
+pub only-both-l : (s t : Bool) (n : ℕ) → only (s && t) n ≤ only s n
+unfolding only
+only-both-l true t n = only-le t n
+only-both-l false t n = omega arith
+
+-- and the other
+pub only-both-r : (s t : Bool) (n : ℕ) → only (s && t) n ≤ only t n
+unfolding only
+only-both-r true t n = omega arith
+only-both-r false t n = omega arith
+
+-- a test or its opposite lets the number through
+pub only-not : (t : Bool) (n : ℕ) → only t n + only (not t) n ≡ n
+unfolding only
+only-not true n = omega arith
+only-not false n = omega arith
+
+-- numbers that agree where the test passes
+pub only-ext : (t : Bool) (m n : ℕ) → (t ≡ true → m ≡ n) → only t m ≡ only t n
+unfolding only
+only-ext true m n h = h refl
+only-ext false m n h = refl
+
+-- each number is at most the sum
+pub le-sum : (n : ℕ) (f : ℕ → ℕ) (d : ℕ) → d < n → f d ≤ sum-below n f
+unfolding sum-below
+le-sum zero f d h = absurd (omega arith)
+le-sum (suc n) f d h = go (eqb d n) refl (le-sum n f d)
+  where
+    go : (t : Bool) → eqb d n ≡ t → (d < n → f d ≤ sum-below n f) → f d ≤ sum-below n f + f n
+    go true e ih = omega (arith, ap f (eqb-true d n e))
+    go false e ih = let q : (d ≡ n → ⊥) = eqb-false d n e in omega (arith, ih (omega arith))

@@ -1,5 +1,7 @@
 -- What callers may rely on, and what the proofs of the code share.
-mod There
+pub mod Groups
+pub mod Promises
 mod Sharing
+mod There
 mod Ladder
 mod Passed

@@ -1,0 +1,325 @@
+-- What the crates above may rely on: an accepted sheet is well formed, and the record calls give its records.
+use Prim.Native.Nat.{ℕ, zero, suc, _+_, _*_, _≤_, _<_}
+use mathlib.Core.Path.{_≡_, refl, sym, ap, _∙_, subst}
+use mathlib.Core.Bool.{Bool, true, false, _&&_, _||_, not}
+use mathlib.Core.List.{List, [], _∷_}
+use native.Mathlib.Omega.{arith}
+use lib.Dec.{eqb, ltb, leb}
+use lib.ListN.{length}
+use borrow.Author.Tests.{ltb-true, ltb-false, leb-false, eqb-true, eqb-false, lt-ltb, le-ltb, le-leb, eq-eqb, ne-eqb, not-false}
+use Rattle.finite.specs.Below.{only, any-below}
+use Rattle.finite.proofs.Booleans.{clash, both, neither-l, neither-r}
+use Rattle.finite.proofs.Tests.{none-at}
+use Rattle.sheet.specs.Limits.{max-amount}
+use Rattle.sheet.specs.Layout.{Inside, header, service, cabinet, stream}
+use Rattle.sheet.specs.Conditions.{beyond-limits, some-block-outside, too-high, cabinet-too-high, some-amount-too-high, wrong-parent, some-parent-wrong, wrong-ends, some-ends-wrong, linked, root-linked}
+use Rattle.sheet.specs.Refusals.{Rule, lowest}
+use Rattle.sheet.specs.Reading.{rules, answered, reading}
+use Rattle.sheet.specs.Records.{there, service-record, cabinet-record, stream-record}
+use Rattle.sheet.specs.Instance.{Instance, WellFormed, instance}
+use Rattle.sheet.specs.declared.Sheet.{Sheet}
+use Rattle.sheet.specs.declared.Cabinet.{Cabinet}
+use Rattle.sheet.specs.declared.Stream.{Stream}
+use Rattle.sheet.specs.declared.Reading.{Reading}
+use Rattle.sheet.specs.declared.Reading.the-variants.{Accepted, Refused}
+use Rattle.sheet.specs.declared.ServiceRecord.the-variants as services
+use Rattle.sheet.specs.declared.CabinetRecord.the-variants as cabinets
+use Rattle.sheet.specs.declared.StreamRecord.the-variants as streams
+use Rattle.sheet.proofs.Passed.{Counted, counted, inside}
+
+-- ---- none of the rules applies
+
+-- a rule that is passed: it does not apply, and none after it does
+passed : (x : Rule) (xs : List Rule) → 0 < x .number → lowest (x ∷ xs) ≡ 0 → (x .applies ≡ false) × (lowest xs ≡ 0)
+unfolding lowest
+passed x xs z e = go (x .applies) refl
+  where
+    go : (t : Bool) → x .applies ≡ t → (x .applies ≡ false) × (lowest xs ≡ 0)
+    go true q = absurd (let k : x .number ≡ 0 = simp q at e in omega arith)
+    go false q = (q, simp q at e)
+
+is-zero : (n : ℕ) (h k : Sheet) → answered n h ≡ Accepted k → (n ≡ 0) × (k ≡ h)
+unfolding answered
+is-zero zero h k e = (refl, cc)
+is-zero (suc n) h k e = absurd (let z : _≡_ {A = ℕ} 0 1 = cc in omega arith)
+
+-- the conditions that do not hold of an accepted sheet, as far as the records are concerned
+record Clear (h : Sheet) (bytes : List ℕ) : Type 0 where
+  limits : beyond-limits h bytes ≡ false
+  blocks : some-block-outside h (length bytes) ≡ false
+  amounts : some-amount-too-high h bytes ≡ false
+  parents : some-parent-wrong h bytes ≡ false
+  ends : some-ends-wrong h bytes ≡ false
+  root : root-linked h bytes ≡ false
+
+clear : (bytes : List ℕ) → lowest (rules bytes) ≡ 0 → Clear (header bytes) bytes
+unfolding rules
+clear bytes e =
+    let p1 = passed _ _ (omega arith) e in
+    let p2 = passed _ _ (omega arith) (p1 .1) in
+    let p3 = passed _ _ (omega arith) (p2 .1) in
+    let p4 = passed _ _ (omega arith) (p3 .1) in
+    let p5 = passed _ _ (omega arith) (p4 .1) in
+    let p6 = passed _ _ (omega arith) (p5 .1) in
+    let p7 = passed _ _ (omega arith) (p6 .1) in
+    let p8 = passed _ _ (omega arith) (p7 .1) in
+    let p9 = passed _ _ (omega arith) (p8 .1) in
+    record {
+      limits = p2 .0;
+      blocks = p4 .0;
+      amounts = p6 .0;
+      parents = p7 .0;
+      ends = p8 .0;
+      root = p9 .0;
+    }
+
+-- ---- one record
+
+none-of-six :
+    (p q r s t u : Bool) →
+    p || q || r || s || t || u ≡ false →
+    (p ≡ false) × (q ≡ false) × (r ≡ false) × (s ≡ false) × (t ≡ false) × (u ≡ false)
+none-of-six false false false false false u e = (refl, refl, refl, refl, refl, e)
+none-of-six false false false false true u e = clash e
+none-of-six false false false true t u e = clash e
+none-of-six false false true s t u e = clash e
+none-of-six false true r s t u e = clash e
+none-of-six true q r s t u e = clash e
+
+-- the amounts of a cabinet that refusal 6 does not apply to
+record Low (k : Cabinet) : Type 0 where
+  capacity : k .capacity ≤ max-amount
+  price : k .price ≤ max-amount
+  up-capacity : k .«up_capacity» ≤ max-amount
+  up-price : k .«up_price» ≤ max-amount
+  down-capacity : k .«down_capacity» ≤ max-amount
+  down-price : k .«down_price» ≤ max-amount
+
+low : (k : Cabinet) → cabinet-too-high k ≡ false → Low k
+unfolding cabinet-too-high
+low k e =
+    let f =
+    none-of-six
+    (too-high (k .capacity))
+    (too-high (k .price))
+    (too-high (k .«up_capacity»))
+    (too-high (k .«up_price»))
+    (too-high (k .«down_capacity»))
+    (too-high (k .«down_price»))
+    e in
+    record {
+      capacity = ltb-false _ _ (f .0);
+      price = ltb-false _ _ (f .1);
+      up-capacity = ltb-false _ _ (f .2);
+      up-price = ltb-false _ _ (f .3);
+      down-capacity = ltb-false _ _ (f .4);
+      down-price = ltb-false _ _ (f .5);
+    }
+
+smaller : (c : ℕ) (k : Cabinet) → 0 < c → wrong-parent c k ≡ false → k .parent < c
+unfolding wrong-parent
+smaller c k z e = leb-false c (k .parent) (simp (ne-eqb c 0 (λ q. omega arith)) at e)
+
+none-of-three : (p q r : Bool) → p || q || r ≡ false → (p ≡ false) × (q ≡ false) × (r ≡ false)
+none-of-three false false r e = (refl, refl, e)
+none-of-three false true r e = clash e
+none-of-three true q r e = clash e
+
+-- the ends of a stream that refusal 8 does not apply to
+record Ends (r : ℕ) (t : Stream) : Type 0 where
+  from-below : t .from < r
+  to-below : t .to < r
+  differ : t .from ≡ t .to → ⊥
+
+ends-right : (r : ℕ) (t : Stream) → wrong-ends r t ≡ false → Ends r t
+unfolding wrong-ends
+ends-right r t e =
+    let f = none-of-three (leb r (t .from)) (leb r (t .to)) (eqb (t .from) (t .to)) e in
+    record {
+      from-below = leb-false _ _ (f .0);
+      to-below = leb-false _ _ (f .1);
+      differ = eqb-false _ _ (f .2);
+    }
+
+not-linked :
+    (k : Cabinet) →
+    linked k ≡ false →
+    (k .«up_capacity» ≡ 0) × (k .«up_price» ≡ 0) × (k .«down_capacity» ≡ 0) × (k .«down_price» ≡ 0)
+unfolding linked
+not-linked k e =
+    let f =
+    none-of-six
+    false
+    false
+    (not (eqb (k .«up_capacity») 0))
+    (not (eqb (k .«up_price») 0))
+    (not (eqb (k .«down_capacity») 0))
+    (not (eqb (k .«down_price») 0))
+    e in (
+      eqb-true _ _ (not-false _ (f .2)),
+      eqb-true _ _ (not-false _ (f .3)),
+      eqb-true _ _ (not-false _ (f .4)),
+      eqb-true _ _ (not-false _ (f .5)),
+    )
+
+-- ---- a field of every number, 0 where there is no record
+
+field-le : (n m : ℕ) (f : ℕ → ℕ) → ((d : ℕ) → d < n → f d ≤ m) → (d : ℕ) → only (ltb d n) (f d) ≤ m
+unfolding only
+field-le n m f h d = go (ltb d n) refl
+  where
+    go : (t : Bool) → ltb d n ≡ t → only (ltb d n) (f d) ≤ m
+    go true e = rw e (h d (ltb-true d n e))
+    go false e = rw e (omega arith)
+
+field-lt : (n m : ℕ) (f : ℕ → ℕ) (d : ℕ) → 0 < m → (d < n → f d < m) → only (ltb d n) (f d) < m
+unfolding only
+field-lt n m f d z h = go (ltb d n) refl
+  where
+    go : (t : Bool) → ltb d n ≡ t → only (ltb d n) (f d) < m
+    go true e = rw e (h (ltb-true d n e))
+    go false e = rw e z
+
+pub field-at : (n : ℕ) (f : ℕ → ℕ) (d : ℕ) → d < n → only (ltb d n) (f d) ≡ f d
+unfolding only
+field-at n f d k = rw (lt-ltb d n k)
+
+-- ---- an accepted sheet
+
+module _ (bytes : List ℕ) (h : Sheet) (a : reading bytes ≡ Accepted h) where
+  zero-refusals : (lowest (rules bytes) ≡ 0) × (h ≡ header bytes)
+  unfolding reading
+  zero-refusals = is-zero (lowest (rules bytes)) (header bytes) h a
+
+  clean : Clear (header bytes) bytes
+  clean = clear bytes (zero-refusals .0)
+
+  sizes : Counted (header bytes)
+  sizes = counted (header bytes) bytes (clean .limits)
+
+  lies : Inside (header bytes) (length bytes)
+  lies = inside (header bytes) (length bytes) sizes (clean .blocks)
+
+  -- the reader's value has the counts of the instance
+  pub counts : (h .services ≡ instance bytes .r) × (h .cabinets ≡ instance bytes .s) × (h .streams ≡ instance bytes .q)
+  unfolding instance
+  counts = (
+    ap (λ (k : Sheet). k .services) (zero-refusals .1),
+    ap (λ (k : Sheet). k .cabinets) (zero-refusals .1),
+    ap (λ (k : Sheet). k .streams) (zero-refusals .1),
+  )
+
+  abbrev high-service : ℕ → Bool
+  high-service i = too-high (service (header bytes) bytes i .demand)
+
+  abbrev high-cabinet : ℕ → Bool
+  high-cabinet c = cabinet-too-high (cabinet (header bytes) bytes c)
+
+  abbrev high-stream : ℕ → Bool
+  high-stream j = too-high (stream (header bytes) bytes j .demand)
+
+  -- no demand, capacity or price is above the limit
+  none-high :
+      (any-below (header bytes .services) high-service ≡ false)
+      × (any-below (header bytes .cabinets) high-cabinet ≡ false)
+      × (any-below (header bytes .streams) high-stream ≡ false)
+  unfolding some-amount-too-high
+  none-high =
+      none-of-three
+      (any-below (header bytes .services) high-service)
+      (any-below (header bytes .cabinets) high-cabinet)
+      (any-below (header bytes .streams) high-stream)
+      (clean .amounts)
+
+  service-low : (i : ℕ) → i < header bytes .services → service (header bytes) bytes i .demand ≤ max-amount
+  service-low i k = ltb-false _ _ (none-at (header bytes .services) high-service (none-high .0) i k)
+
+  cabinet-low : (c : ℕ) → c < header bytes .cabinets → Low (cabinet (header bytes) bytes c)
+  cabinet-low c k = low _ (none-at (header bytes .cabinets) high-cabinet (none-high .1) c k)
+
+  stream-low : (j : ℕ) → j < header bytes .streams → stream (header bytes) bytes j .demand ≤ max-amount
+  stream-low j k = ltb-false _ _ (none-at (header bytes .streams) high-stream (none-high .2) j k)
+
+  parent-low : (c : ℕ) → 0 < c → c < header bytes .cabinets → cabinet (header bytes) bytes c .parent < c
+  unfolding some-parent-wrong
+  parent-low c z k = smaller c _ z (none-at (header bytes .cabinets) _ (clean .parents) c k)
+
+  ends-of : (j : ℕ) → j < header bytes .streams → Ends (header bytes .services) (stream (header bytes) bytes j)
+  unfolding some-ends-wrong
+  ends-of j k = ends-right _ _ (none-at (header bytes .streams) _ (clean .ends) j k)
+
+  at-root : (f : ℕ → ℕ) → only (ltb 0 (header bytes .cabinets)) (f 0) ≡ f 0
+  at-root f = field-at (header bytes .cabinets) f 0 (sizes .some-cabinet)
+
+  -- what the reader promises of every accepted sheet
+  pub well-formed : WellFormed (instance bytes)
+  unfolding instance root-linked
+  well-formed =
+      let s = header bytes .cabinets in
+      let q = header bytes .streams in
+      let root = not-linked _ (clean .root) in
+      record {
+        services = sizes .services;
+        some-cabinet = sizes .some-cabinet;
+        cabinets = sizes .cabinets;
+        streams = sizes .streams;
+        demands = field-le (header bytes .services) _ _ service-low;
+        parents = λ c z. field-lt s c _ c z (parent-low c z);
+        capacities = field-le s _ _ (λ c k. cabinet-low c k .capacity);
+        prices = field-le s _ _ (λ c k. cabinet-low c k .price);
+        up-capacities = field-le s _ _ (λ c k. cabinet-low c k .up-capacity);
+        up-prices = field-le s _ _ (λ c k. cabinet-low c k .up-price);
+        down-capacities = field-le s _ _ (λ c k. cabinet-low c k .down-capacity);
+        down-prices = field-le s _ _ (λ c k. cabinet-low c k .down-price);
+        loads = field-le q _ _ stream-low;
+        from-service = λ j k. field-lt q _ _ j (omega (arith, ends-of j k .from-below)) (λ l. ends-of j l .from-below);
+        to-service = λ j k. field-lt q _ _ j (omega (arith, ends-of j k .from-below)) (λ l. ends-of j l .to-below);
+        ends-differ = λ j k e. ends-of j k .differ (sym (field-at q _ j k) ∙ e ∙ field-at q _ j k);
+        root-links =
+            (at-root _ ∙ root .0, at-root _ ∙ root .1, at-root _ ∙ root .2, at-root _ ∙ root .3);
+      }
+
+  -- every record that the sheet has is given, with the fields of the instance
+  pub service-given :
+      (i : ℕ) →
+      i < instance bytes .r →
+      service-record h bytes i ≡ services.Given (record { demand = instance bytes .demand i })
+  unfolding instance service-record there only
+  service-given i k =
+      let f : header bytes .«services_at» + 2 * i + 2 ≤ length bytes = omega (arith, lies .services) in
+      rw (zero-refusals .1)
+      (simp (lt-ltb i (header bytes .services) k, le-leb (header bytes .«services_at» + 2 * i + 2) (length bytes) f))
+
+  pub cabinet-given :
+      (c : ℕ) →
+      c < instance bytes .s →
+      cabinet-record h bytes c
+      ≡ cabinets.Given (record {
+        parent = instance bytes .parent c;
+        capacity = instance bytes .capacity c;
+        price = instance bytes .price c;
+        «up_capacity» = instance bytes .up-capacity c;
+        «up_price» = instance bytes .up-price c;
+        «down_capacity» = instance bytes .down-capacity c;
+        «down_price» = instance bytes .down-price c;
+      })
+  unfolding instance cabinet-record there only
+  cabinet-given c k =
+      let f : header bytes .«cabinets_at» + 14 * c + 14 ≤ length bytes = omega (arith, lies .cabinets) in
+      rw (zero-refusals .1)
+      (simp (lt-ltb c (header bytes .cabinets) k, le-leb (header bytes .«cabinets_at» + 14 * c + 14) (length bytes) f))
+
+  pub stream-given :
+      (j : ℕ) →
+      j < instance bytes .q →
+      stream-record h bytes j
+      ≡ streams.Given (record {
+        from = instance bytes .from j;
+        to = instance bytes .to j;
+        demand = instance bytes .load j;
+      })
+  unfolding instance stream-record there only
+  stream-given j k =
+      let f : header bytes .«streams_at» + 6 * j + 6 ≤ length bytes = omega (arith, lies .streams) in
+      rw (zero-refusals .1)
+      (simp (lt-ltb j (header bytes .streams) k, le-leb (header bytes .«streams_at» + 6 * j + 6) (length bytes) f))
