@@ -248,6 +248,12 @@ module _ (bytes : List ℕ) (h : Sheet) (a : reading bytes ≡ Accepted h) where
   unfolding some-ends-wrong
   ends-of j k = ends-right _ _ (none-at (header bytes .streams) _ (clean .ends) j k)
 
+  abbrev cab : ℕ → Cabinet
+  cab c = cabinet (header bytes) bytes c
+
+  abbrev str : ℕ → Stream
+  str j = stream (header bytes) bytes j
+
   at-root : (f : ℕ → ℕ) → only (ltb 0 (header bytes .cabinets)) (f 0) ≡ f 0
   at-root f = field-at (header bytes .cabinets) f 0 (sizes .some-cabinet)
 
@@ -264,7 +270,7 @@ module _ (bytes : List ℕ) (h : Sheet) (a : reading bytes ≡ Accepted h) where
         cabinets = sizes .cabinets;
         streams = sizes .streams;
         demands = field-le (header bytes .services) _ _ service-low;
-        parents = λ c z. field-lt s c _ c z (parent-low c z);
+        parents = λ c z. field-lt s c (λ d. cab d .parent) c z (parent-low c z);
         capacities = field-le s _ _ (λ c k. cabinet-low c k .capacity);
         prices = field-le s _ _ (λ c k. cabinet-low c k .price);
         up-capacities = field-le s _ _ (λ c k. cabinet-low c k .up-capacity);
@@ -272,11 +278,19 @@ module _ (bytes : List ℕ) (h : Sheet) (a : reading bytes ≡ Accepted h) where
         down-capacities = field-le s _ _ (λ c k. cabinet-low c k .down-capacity);
         down-prices = field-le s _ _ (λ c k. cabinet-low c k .down-price);
         loads = field-le q _ _ stream-low;
-        from-service = λ j k. field-lt q _ _ j (omega (arith, ends-of j k .from-below)) (λ l. ends-of j l .from-below);
-        to-service = λ j k. field-lt q _ _ j (omega (arith, ends-of j k .from-below)) (λ l. ends-of j l .to-below);
-        ends-differ = λ j k e. ends-of j k .differ (sym (field-at q _ j k) ∙ e ∙ field-at q _ j k);
-        root-links =
-            (at-root _ ∙ root .0, at-root _ ∙ root .1, at-root _ ∙ root .2, at-root _ ∙ root .3);
+        from-service =
+            λ j k. field-lt q _ (λ d. str d .from) j (omega (arith, ends-of j k .from-below)) (λ l. ends-of j l .from-below);
+        to-service =
+            λ j k. field-lt q _ (λ d. str d .to) j (omega (arith, ends-of j k .from-below)) (λ l. ends-of j l .to-below);
+        ends-differ =
+            λ j k e. ends-of j k .differ
+            (sym (field-at q (λ d. str d .from) j k) ∙ e ∙ field-at q (λ d. str d .to) j k);
+        root-links = (
+          at-root (λ d. cab d .«up_capacity») ∙ root .0,
+          at-root (λ d. cab d .«up_price») ∙ root .1,
+          at-root (λ d. cab d .«down_capacity») ∙ root .2,
+          at-root (λ d. cab d .«down_price») ∙ root .3,
+        );
       }
 
   -- every record that the sheet has is given, with the fields of the instance
