@@ -7,10 +7,9 @@ use lib.Dec.{eqb, ltb}
 use borrow.Author.Tests.{ltb-false}
 use Rattle.finite.proofs.Booleans.{clash, neither-l, neither-r}
 use Rattle.sheet.specs.Limits.{max-services, max-cabinets, max-streams}
-use Rattle.sheet.specs.Layout.{Bounded, Inside, eighth-word, service-block, cabinet-block, stream-block}
+use Rattle.sheet.specs.Layout.{Bounded, Inside, eighth-word, services-size, cabinets-size, streams-size}
 use Rattle.sheet.specs.Conditions.{beyond-limits, outside, some-block-outside}
 use Rattle.sheet.specs.declared.Sheet.{Sheet}
-use Rattle.sheet.specs.declared.Block.{Block}
 
 -- the counts of a sheet that refusal 2 does not apply to
 pub record Counted (h : Sheet) : Type 0 where
@@ -45,10 +44,13 @@ counted h bytes e =
       streams = ltb-false _ _ (f .3);
     }
 
-pub bounded : (h : Sheet) → Counted h → h .«services_at» < 65536 → h .«cabinets_at» < 65536 → h .«streams_at» < 65536 → Bounded h
+-- with offsets that are words
+pub bounded :
+    (h : Sheet) → Counted h → h .«services_at» < 65536 → h .«cabinets_at» < 65536 → h .«streams_at» < 65536 → Bounded h
 bounded h k a b c =
     record {
       services = k .services;
+      some-cabinet = k .some-cabinet;
       cabinets = k .cabinets;
       streams = k .streams;
       services-at = a;
@@ -57,22 +59,20 @@ bounded h k a b c =
     }
 
 -- a block that refusal 4 does not apply to
-pub fits : (len : ℕ) (b : Block) → outside len b ≡ false → (16 ≤ b .at) × (b .at + b .size ≤ len)
+fits : (len at size : ℕ) → outside len at size ≡ false → at + size ≤ len
 unfolding outside
-fits len b e = (
-  ltb-false _ _ (neither-l (ltb (b .at) 16) (ltb len (b .at + b .size)) e),
-  ltb-false _ _ (neither-r (ltb (b .at) 16) (ltb len (b .at + b .size)) e),
-)
+fits len at size e = ltb-false _ _ (neither-r (ltb at 16) (ltb len (at + size)) e)
 
-pub inside : (h : Sheet) (len : ℕ) → Counted h → some-block-outside h len ≡ false → Inside h len
-unfolding some-block-outside service-block cabinet-block stream-block
+-- blocks that refusal 4 does not apply to
+pub inside : (h : Sheet) (len : ℕ) → 1 ≤ h .cabinets → some-block-outside h len ≡ false → Inside h len
+unfolding some-block-outside
 inside h len k e =
-    let first = outside len (service-block h) in
-    let second = outside len (cabinet-block h) in
-    let third = outside len (stream-block h) in
+    let first = outside len (h .«services_at») (services-size h) in
+    let second = outside len (h .«cabinets_at») (cabinets-size h) in
+    let third = outside len (h .«streams_at») (streams-size h) in
     record {
-      services = fits len (service-block h) (neither-l first second (neither-l (first || second) third e)) .1;
-      cabinets = fits len (cabinet-block h) (neither-r first second (neither-l (first || second) third e)) .1;
-      streams = fits len (stream-block h) (neither-r (first || second) third e) .1;
-      root = k .some-cabinet;
+      services = fits len _ _ (neither-l first second (neither-l (first || second) third e));
+      cabinets = fits len _ _ (neither-r first second (neither-l (first || second) third e));
+      streams = fits len _ _ (neither-r (first || second) third e);
+      root = k;
     }

@@ -198,7 +198,7 @@ module _ (bytes : List ℕ) (h : Sheet) (a : reading bytes ≡ Accepted h) where
   sizes = counted (header bytes) bytes (clean .limits)
 
   lies : Inside (header bytes) (length bytes)
-  lies = inside (header bytes) (length bytes) sizes (clean .blocks)
+  lies = inside (header bytes) (length bytes) (sizes .some-cabinet) (clean .blocks)
 
   -- the reader's value has the counts of the instance
   pub counts : (h .services ≡ instance bytes .r) × (h .cabinets ≡ instance bytes .s) × (h .streams ≡ instance bytes .q)

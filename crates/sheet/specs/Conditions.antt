@@ -6,9 +6,8 @@ use lib.ListN.{length}
 use lib.Dec.{eqb, ltb, leb}
 use Rattle.finite.specs.Below.{any-below}
 use Rattle.sheet.specs.Limits.{max-services, max-cabinets, max-streams, max-amount}
-use Rattle.sheet.specs.Layout.{length-word, eighth-word, service, cabinet, stream, service-block, cabinet-block, stream-block}
+use Rattle.sheet.specs.Layout.{length-word, eighth-word, service, cabinet, stream, services-size, cabinets-size, streams-size}
 use Rattle.sheet.specs.declared.Sheet.{Sheet}
-use Rattle.sheet.specs.declared.Block.{Block}
 use Rattle.sheet.specs.declared.Cabinet.{Cabinet}
 use Rattle.sheet.specs.declared.Stream.{Stream}
 
@@ -30,25 +29,28 @@ abbrev pub wrong-length : List ℕ → Bool
 wrong-length bytes = not (eqb (length-word bytes) (length bytes))
 
 -- 4: a block's offset is below 16, or the block ends past the length
-unfoldable pub outside : ℕ → Block → Bool
-outside len b = ltb (b .at) 16 || ltb len (b .at + b .size)
+unfoldable pub outside : ℕ → ℕ → ℕ → Bool
+outside len at size = ltb at 16 || ltb len (at + size)
 
 unfoldable pub some-block-outside : Sheet → ℕ → Bool
 some-block-outside h len =
-    outside len (service-block h) || outside len (cabinet-block h) || outside len (stream-block h)
+    outside len (h .«services_at») (services-size h)
+    || outside len (h .«cabinets_at») (cabinets-size h)
+    || outside len (h .«streams_at») (streams-size h)
 
 -- 5: two blocks share a byte
-unfoldable pub holds : Block → ℕ → Bool
-holds b byte = leb (b .at) byte && ltb byte (b .at + b .size)
+unfoldable pub holds : ℕ → ℕ → ℕ → Bool
+holds at size byte = leb at byte && ltb byte (at + size)
 
-unfoldable pub share : Block → Block → Bool
-share a b = any-below (a .size) (λ i. holds b (a .at + i))
+-- a byte of the block of m bytes at a is a byte of the block of n bytes at b
+unfoldable pub share : ℕ → ℕ → ℕ → ℕ → Bool
+share a m b n = any-below m (λ i. holds b n (a + i))
 
 unfoldable pub some-blocks-share : Sheet → Bool
 some-blocks-share h =
-    share (service-block h) (cabinet-block h)
-    || share (service-block h) (stream-block h)
-    || share (cabinet-block h) (stream-block h)
+    share (h .«services_at») (services-size h) (h .«cabinets_at») (cabinets-size h)
+    || share (h .«services_at») (services-size h) (h .«streams_at») (streams-size h)
+    || share (h .«cabinets_at») (cabinets-size h) (h .«streams_at») (streams-size h)
 
 -- 6: a demand, capacity or price above 10,000
 abbrev pub too-high : ℕ → Bool

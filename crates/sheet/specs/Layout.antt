@@ -4,7 +4,6 @@ use mathlib.Core.List.{List}
 use lib.ListN.{getD, drop}
 use Rattle.sheet.specs.Limits.{max-services, max-cabinets, max-streams}
 use Rattle.sheet.specs.declared.Sheet.{Sheet}
-use Rattle.sheet.specs.declared.Block.{Block}
 use Rattle.sheet.specs.declared.Service.{Service}
 use Rattle.sheet.specs.declared.Cabinet.{Cabinet}
 use Rattle.sheet.specs.declared.Stream.{Stream}
@@ -59,19 +58,20 @@ unfoldable pub stream-in : List ℕ → ℕ → Stream
 stream-in block j =
     record { from = word-at block (6 * j); to = word-at block (6 * j + 2); demand = word-at block (6 * j + 4) }
 
--- where each block lies: its offset, and as many bytes as its records take
-unfoldable pub service-block : Sheet → Block
-service-block h = record { at = h .«services_at»; size = 2 * h .services }
+-- how many bytes the records of each kind take
+abbrev pub services-size : Sheet → ℕ
+services-size h = 2 * h .services
 
-unfoldable pub cabinet-block : Sheet → Block
-cabinet-block h = record { at = h .«cabinets_at»; size = 14 * h .cabinets }
+abbrev pub cabinets-size : Sheet → ℕ
+cabinets-size h = 14 * h .cabinets
 
-unfoldable pub stream-block : Sheet → Block
-stream-block h = record { at = h .«streams_at»; size = 6 * h .streams }
+abbrev pub streams-size : Sheet → ℕ
+streams-size h = 6 * h .streams
 
 -- counts within their limits, and offsets that are words: no sum of an offset and a size is too large for the code
 pub record Bounded (h : Sheet) : Type 0 where
   pub services : h .services ≤ max-services
+  pub some-cabinet : 1 ≤ h .cabinets
   pub cabinets : h .cabinets ≤ max-cabinets
   pub streams : h .streams ≤ max-streams
   pub services-at : h .«services_at» < 65536
@@ -80,9 +80,9 @@ pub record Bounded (h : Sheet) : Type 0 where
 
 -- every block lies within so many bytes, and there is a cabinet
 pub record Inside (h : Sheet) (len : ℕ) : Type 0 where
-  pub services : h .«services_at» + 2 * h .services ≤ len
-  pub cabinets : h .«cabinets_at» + 14 * h .cabinets ≤ len
-  pub streams : h .«streams_at» + 6 * h .streams ≤ len
+  pub services : h .«services_at» + services-size h ≤ len
+  pub cabinets : h .«cabinets_at» + cabinets-size h ≤ len
+  pub streams : h .«streams_at» + streams-size h ≤ len
   pub root : 1 ≤ h .cabinets
 
 -- each record of a sheet by its number

@@ -1,8 +1,10 @@
 // The reader of planning sheets: any bytes get the counts and records of a sheet, or one refusal.
 ghost use mathlib.Core.Path.{_≡_};
-ghost use Rattle.sheet.specs.Reading.{reading};
+ghost use lib.ListN.{length, drop};
+ghost use Rattle.sheet.specs.Layout.{Bounded, Inside, header};
+ghost use Rattle.sheet.specs.Reading.{rules, answered, reading};
 ghost use Rattle.sheet.specs.Records.{service-record, cabinet-record, stream-record};
-ghost use Rattle.sheet.specs.Refusals.{number-of};
+ghost use Rattle.sheet.specs.Refusals.{number-of, lowest};
 
 mod blocks; // blocks.rt: where the three blocks lie
 mod conditions; // conditions.rt: the conditions of refusals 6 to 9 over all records
@@ -83,13 +85,7 @@ pub enum StreamRecord {
     Missing,
 }
 
-// Bytes of the sheet that hold the records of one kind.
-struct Block {
-    at: usize,
-    size: usize,
-}
-
-// Reads a sheet: accepted exactly when no refusal applies, else refused with the lowest.
+// Reads a sheet: accepted exactly when no refusal applies, else refused with the lowest. Here 1 to 3.
 pub fn read(bytes: &[u8]) -> Reading
     ensures { λ r. ⌜ r ≡ reading (now (bytes .entry)) ⌝ }
 {
@@ -103,12 +99,28 @@ pub fn read(bytes: &[u8]) -> Reading
     if word(bytes, 12) as usize != bytes.len() {
         return Reading::Refused(Refusal::SheetWriter(3));
     }
+    read_blocks(bytes, sheet)
+}
+
+// Refusals 4 and 5, where 1 to 3 do not apply.
+fn read_blocks(bytes: &[u8], sheet: Sheet) -> Reading
+    requires { ⌜ (sheet ≡ header (now bytes)) × Bounded sheet ⌝ }
+    ensures { λ r. ⌜ r ≡ answered (lowest (drop 3 (rules (now (bytes .entry))))) sheet ⌝ }
+{
     if any_outside(sheet, bytes.len()) {
         return Reading::Refused(Refusal::SheetWriter(4));
     }
     if any_share(sheet) {
         return Reading::Refused(Refusal::SheetWriter(5));
     }
+    read_records(bytes, sheet)
+}
+
+// Refusals 6 to 9, where 1 to 5 do not apply.
+fn read_records(bytes: &[u8], sheet: Sheet) -> Reading
+    requires { ⌜ (sheet ≡ header (now bytes)) × Inside sheet (length (now bytes)) ⌝ }
+    ensures { λ r. ⌜ r ≡ answered (lowest (drop 5 (rules (now (bytes .entry))))) sheet ⌝ }
+{
     if is_amount_too_high(bytes, sheet) {
         return Reading::Refused(Refusal::SheetWriter(6));
     }

@@ -1,5 +1,6 @@
+-- `any_share` answers some-blocks-share: the three tests in a row.
 use mathlib.Core.Logic.{⊎-elim}
-use mathlib.Core.Path.{_≡_, refl, _∙_}
+use mathlib.Core.Path.{_≡_, refl, ap₂, _∙_}
 use mathlib.Core.Bool.{_||_}
 use Rattle.finite.proofs.Booleans.{or-taken, or-left}
 use Rattle.sheet.specs.Conditions.{some-blocks-share}
@@ -8,13 +9,13 @@ use Rattle.sheet.proofs.blocks.any_share.Statement.{statement}
 use Rattle.sheet.proofs.blocks.any_share.Tie as tie
 use Rattle.sheet.proofs.blocks.any_share.Reads as reads
 use Rattle.sheet.proofs.blocks.any_share.Lts as lts
-use Rattle.sheet.proofs.blocks.cabinets.Reads as cabinets-reads
 use Rattle.sheet.proofs.blocks.do_share.Reads as do-share-reads
-use Rattle.sheet.proofs.blocks.services.Reads as services-reads
-use Rattle.sheet.proofs.blocks.streams.Reads as streams-reads
+
+abbrev claims : lts.Claims
+claims = (do-share-reads.Asked, do-share-reads.Learnt)
 
 first :
-    (c : lts.Joined1 (services-reads.Asked, services-reads.Learnt, cabinets-reads.Asked, cabinets-reads.Learnt, streams-reads.Asked, streams-reads.Learnt, do-share-reads.Asked, do-share-reads.Learnt) reads.Pre reads.Post) →
+    (c : lts.Joined1 claims reads.Pre reads.Post) →
     c .if1 .if2 ≡ c .before .before .before .do-share .result || c .before .before .do-share2 .result
 first c =
     ⊎-elim
@@ -22,47 +23,47 @@ first c =
     (λ w. w .1 ∙ or-left _ _ _ refl (w .0 .left))
     (c .if1 .came)
 
--- src/blocks.rt:72:9
-services-requires : tie.Need-services-requires
-services-requires c κs = search needs
+-- src/blocks.rt:41:20
+mul-services : tie.Need-mul-services
+mul-services c = search needs
 
--- src/blocks.rt:73:9
-cabinets-requires : tie.Need-cabinets-requires
-cabinets-requires c κs = search needs
+-- src/blocks.rt:42:20
+mul-cabinets : tie.Need-mul-cabinets
+mul-cabinets c = search needs
 
--- src/blocks.rt:74:9
-streams-requires : tie.Need-streams-requires
-streams-requires c κs = search needs
+-- src/blocks.rt:43:19
+mul-streams : tie.Need-mul-streams
+mul-streams c = search needs
 
--- src/blocks.rt:75:9
+-- src/blocks.rt:44:9
 do-share-requires : tie.Need-do-share-requires
 do-share-requires c κs = search needs
 
--- src/blocks.rt:76:9
+-- src/blocks.rt:45:9
 do-share-requires-2 : tie.Need-do-share-requires-2
 do-share-requires-2 c κs = search needs
 
--- src/blocks.rt:77:9
+-- src/blocks.rt:46:9
 do-share-requires-3 : tie.Need-do-share-requires-3
 do-share-requires-3 c κs = search needs
 
--- src/blocks.rt:68:1
+-- src/blocks.rt:37:1
 returns : tie.Need-returns
 unfolding some-blocks-share
-returns c = or-taken _ _ (c .before .before .do-share3 .result) (first (c .before)) (c .if2 .taken) ∙ cc
+returns c = or-taken _ _ (c .before .before .do-share3 .result) (first (c .before)) (c .if2 .taken) ∙ ap₂ _||_ (ap₂ _||_ (c .before .before .before .before .do-share .ensures) (c .before .before .before .do-share2 .ensures)) (c .before .before .do-share3 .ensures)
 
--- src/blocks.rt:68:1
+-- src/blocks.rt:37:1
 returns-2 : tie.Need-returns-2
 unfolding some-blocks-share
-returns-2 c = or-left _ _ _ (first (c .before)) (c .if2 .left) ∙ cc
+returns-2 c = or-left _ _ _ (first (c .before)) (c .if2 .left) ∙ ap₂ _||_ (ap₂ _||_ (c .before .before .before .before .do-share .ensures) (c .before .before .before .do-share2 .ensures)) (c .before .before .do-share3 .ensures)
 
 pub any-share-spec : {M : Type 1} → statement M
 any-share-spec =
     tie.close
     (tie.spec
-    services-requires
-    cabinets-requires
-    streams-requires
+    mul-services
+    mul-cabinets
+    mul-streams
     do-share-requires
     do-share-requires-2
     do-share-requires-3

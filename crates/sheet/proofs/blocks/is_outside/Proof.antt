@@ -6,19 +6,19 @@ use Rattle.sheet.proofs.blocks.is_outside.Tie as tie
 use Rattle.sheet.proofs.blocks.is_outside.Reads as reads
 use Rattle.sheet.proofs.blocks.is_outside.Lts as lts
 
--- src/blocks.rt:44:39
+-- src/blocks.rt:14:33
 add-result : tie.Need-add-result
 add-result c = search needs
 
--- src/blocks.rt:40:1
+-- src/blocks.rt:10:1
 returns : tie.Need-returns
 unfolding outside
 returns c = simp (lt-ltb _ _ (c .if1 .taken))
 
--- src/blocks.rt:40:1
+-- src/blocks.rt:10:1
 returns-2 : tie.Need-returns-2
 unfolding outside
-returns-2 c = simp (le-ltb _ _ (c .before .if1 .left))
+returns-2 c = simp (le-ltb _ _ (c .if1 .left))
 
 pub is-outside-spec : {M : Type 1} → statement M
 is-outside-spec = tie.close (tie.spec add-result returns returns-2)

@@ -23,35 +23,35 @@ abbrev μ-loop : tie.MeasureT-loop
 
 -- src/conditions.rt:64:5
 loop-holds : tie.Need-loop-holds Inv-loop μ-loop
-loop-holds c = (search needs, any-start _)
+loop-holds c = (omega arith, any-start _)
 
 -- src/conditions.rt:65:32
 read-cabinet-requires : tie.Need-read-cabinet-requires Inv-loop μ-loop
-read-cabinet-requires c κs = search needs
+read-cabinet-requires c κs = omega arith
 
 -- src/conditions.rt:65:12
 is-cabinet-too-high-requires : tie.Need-is-cabinet-too-high-requires Inv-loop μ-loop
-is-cabinet-too-high-requires c κs = search needs
+is-cabinet-too-high-requires c κs = omega arith
 
 -- src/conditions.rt:66:13
 returns : tie.Need-returns Inv-loop μ-loop
-returns c = sym (any-in _ _ (c .before .before .before .before .loop .c) (search needs) ((cc)))
+returns c = sym (any-in _ _ (c .before .before .before .before .loop .c) (omega arith) (sym (c .before .is-cabinet-too-high .ensures ∙ ap (cabinet-too-high) (c .before .before .read-cabinet .ensures)) ∙ c .if1 .taken))
 
 -- src/conditions.rt:68:9
 add-c : tie.Need-add-c Inv-loop μ-loop
-add-c c = search needs
+add-c c = omega arith
 
 -- src/conditions.rt:64:5
 loop-less : tie.Need-loop-less Inv-loop μ-loop
-loop-less c = search needs
+loop-less c = omega arith
 
 -- src/conditions.rt:64:5
 loop-again : tie.Need-loop-again Inv-loop μ-loop
-loop-again c = (search needs, any-next _ _ (c .before .before .before .before .loop .inv .1) ((cc)))
+loop-again c = (omega arith, any-next _ _ (c .before .before .before .before .loop .inv .1) (sym (c .before .is-cabinet-too-high .ensures ∙ ap (cabinet-too-high) (c .before .before .read-cabinet .ensures)) ∙ c .if1 .left))
 
 -- src/conditions.rt:59:1
 returns-2 : tie.Need-returns-2 Inv-loop μ-loop
-returns-2 c = any-end _ _ _ (search needs) (search needs) (c .before .loop .inv .1)
+returns-2 c = any-end _ _ _ (omega arith) (omega arith) (c .before .loop .inv .1)
 
 pub any-cabinet-too-high-spec : {M : Type 1} → statement M
 any-cabinet-too-high-spec =

@@ -23,35 +23,35 @@ abbrev μ-loop : tie.MeasureT-loop
 
 -- src/conditions.rt:107:5
 loop-holds : tie.Need-loop-holds Inv-loop μ-loop
-loop-holds c = (search needs, any-start _)
+loop-holds c = (omega arith, any-start _)
 
 -- src/conditions.rt:108:37
 read-stream-requires : tie.Need-read-stream-requires Inv-loop μ-loop
-read-stream-requires c κs = search needs
+read-stream-requires c κs = omega arith
 
 -- src/conditions.rt:108:12
 are-wrong-ends-requires : tie.Need-are-wrong-ends-requires Inv-loop μ-loop
-are-wrong-ends-requires c κs = search needs
+are-wrong-ends-requires c κs = omega arith
 
 -- src/conditions.rt:109:13
 returns : tie.Need-returns Inv-loop μ-loop
-returns c = sym (any-in _ _ (c .before .before .before .before .loop .j) (search needs) ((cc)))
+returns c = sym (any-in _ _ (c .before .before .before .before .loop .j) (omega arith) (sym (c .before .are-wrong-ends .ensures ∙ ap (wrong-ends (c .before .before .before .before .before .before .args .services)) (c .before .before .read-stream .ensures)) ∙ c .if1 .taken))
 
 -- src/conditions.rt:111:9
 add-j : tie.Need-add-j Inv-loop μ-loop
-add-j c = search needs
+add-j c = omega arith
 
 -- src/conditions.rt:107:5
 loop-less : tie.Need-loop-less Inv-loop μ-loop
-loop-less c = search needs
+loop-less c = omega arith
 
 -- src/conditions.rt:107:5
 loop-again : tie.Need-loop-again Inv-loop μ-loop
-loop-again c = (search needs, any-next _ _ (c .before .before .before .before .loop .inv .1) ((cc)))
+loop-again c = (omega arith, any-next _ _ (c .before .before .before .before .loop .inv .1) (sym (c .before .are-wrong-ends .ensures ∙ ap (wrong-ends (c .before .before .before .before .before .before .args .services)) (c .before .before .read-stream .ensures)) ∙ c .if1 .left))
 
 -- src/conditions.rt:102:1
 returns-2 : tie.Need-returns-2 Inv-loop μ-loop
-returns-2 c = any-end _ _ _ (search needs) (search needs) (c .before .loop .inv .1)
+returns-2 c = any-end _ _ _ (omega arith) (omega arith) (c .before .loop .inv .1)
 
 pub any-ends-wrong-spec : {M : Type 1} → statement M
 any-ends-wrong-spec =

@@ -23,35 +23,35 @@ abbrev μ-loop : tie.MeasureT-loop
 
 -- src/conditions.rt:93:5
 loop-holds : tie.Need-loop-holds Inv-loop μ-loop
-loop-holds c = (search needs, any-start _)
+loop-holds c = (omega arith, any-start _)
 
 -- src/conditions.rt:94:31
 read-cabinet-requires : tie.Need-read-cabinet-requires Inv-loop μ-loop
-read-cabinet-requires c κs = search needs
+read-cabinet-requires c κs = omega arith
 
 -- src/conditions.rt:94:12
 is-wrong-parent-requires : tie.Need-is-wrong-parent-requires Inv-loop μ-loop
-is-wrong-parent-requires c κs = search needs
+is-wrong-parent-requires c κs = omega arith
 
 -- src/conditions.rt:95:13
 returns : tie.Need-returns Inv-loop μ-loop
-returns c = sym (any-in _ _ (c .before .before .before .before .loop .c) (search needs) ((cc)))
+returns c = sym (any-in _ _ (c .before .before .before .before .loop .c) (omega arith) (sym (c .before .is-wrong-parent .ensures ∙ ap (wrong-parent (c .before .before .before .before .loop .c)) (c .before .before .read-cabinet .ensures)) ∙ c .if1 .taken))
 
 -- src/conditions.rt:97:9
 add-c : tie.Need-add-c Inv-loop μ-loop
-add-c c = search needs
+add-c c = omega arith
 
 -- src/conditions.rt:93:5
 loop-less : tie.Need-loop-less Inv-loop μ-loop
-loop-less c = search needs
+loop-less c = omega arith
 
 -- src/conditions.rt:93:5
 loop-again : tie.Need-loop-again Inv-loop μ-loop
-loop-again c = (search needs, any-next _ _ (c .before .before .before .before .loop .inv .1) ((cc)))
+loop-again c = (omega arith, any-next _ _ (c .before .before .before .before .loop .inv .1) (sym (c .before .is-wrong-parent .ensures ∙ ap (wrong-parent (c .before .before .before .before .loop .c)) (c .before .before .read-cabinet .ensures)) ∙ c .if1 .left))
 
 -- src/conditions.rt:88:1
 returns-2 : tie.Need-returns-2 Inv-loop μ-loop
-returns-2 c = any-end _ _ _ (search needs) (search needs) (c .before .loop .inv .1)
+returns-2 c = any-end _ _ _ (omega arith) (omega arith) (c .before .loop .inv .1)
 
 pub any-parent-wrong-spec : {M : Type 1} → statement M
 any-parent-wrong-spec =

@@ -1,3 +1,4 @@
+use Rattle.sheet.specs.declared.Service.{Service}
 use Prim.Native.Nat.{ℕ, _≤_, _-_}
 use mathlib.Core.Path.{_≡_, refl, sym, ap, _∙_, subst}
 use mathlib.Core.Bool.{Bool, true, false}
@@ -22,31 +23,31 @@ abbrev μ-loop : tie.MeasureT-loop
 
 -- src/conditions.rt:49:5
 loop-holds : tie.Need-loop-holds Inv-loop μ-loop
-loop-holds c = (search needs, any-start _)
+loop-holds c = (omega arith, any-start _)
 
 -- src/conditions.rt:50:13
 read-service-requires : tie.Need-read-service-requires Inv-loop μ-loop
-read-service-requires c κs = search needs
+read-service-requires c κs = omega arith
 
 -- src/conditions.rt:52:13
 returns : tie.Need-returns Inv-loop μ-loop
-returns c = sym (any-in _ _ (c .before .before .before .before .loop .i) (search needs) (cc (lt-ltb _ _ (c .if1 .taken))))
+returns c = sym (any-in _ _ (c .before .before .before .before .loop .i) (omega arith) (ap (λ (k : Service). too-high (k .demand)) (sym (c .before .before .read-service .ensures)) ∙ lt-ltb _ _ (c .if1 .taken)))
 
 -- src/conditions.rt:54:9
 add-i : tie.Need-add-i Inv-loop μ-loop
-add-i c = search needs
+add-i c = omega arith
 
 -- src/conditions.rt:49:5
 loop-less : tie.Need-loop-less Inv-loop μ-loop
-loop-less c = search needs
+loop-less c = omega arith
 
 -- src/conditions.rt:49:5
 loop-again : tie.Need-loop-again Inv-loop μ-loop
-loop-again c = (search needs, any-next _ _ (c .before .before .before .before .loop .inv .1) (cc (le-ltb _ _ (c .if1 .left))))
+loop-again c = (omega arith, any-next _ _ (c .before .before .before .before .loop .inv .1) (ap (λ (k : Service). too-high (k .demand)) (sym (c .before .before .read-service .ensures)) ∙ le-ltb _ _ (c .if1 .left)))
 
 -- src/conditions.rt:44:1
 returns-2 : tie.Need-returns-2 Inv-loop μ-loop
-returns-2 c = any-end _ _ _ (search needs) (search needs) (c .before .loop .inv .1)
+returns-2 c = any-end _ _ _ (omega arith) (omega arith) (c .before .loop .inv .1)
 
 pub any-service-too-high-spec : {M : Type 1} → statement M
 any-service-too-high-spec =

@@ -1,3 +1,4 @@
+use Rattle.sheet.specs.declared.Stream.{Stream}
 use Prim.Native.Nat.{ℕ, _≤_, _-_}
 use mathlib.Core.Path.{_≡_, refl, sym, ap, _∙_, subst}
 use mathlib.Core.Bool.{Bool, true, false}
@@ -22,31 +23,31 @@ abbrev μ-loop : tie.MeasureT-loop
 
 -- src/conditions.rt:78:5
 loop-holds : tie.Need-loop-holds Inv-loop μ-loop
-loop-holds c = (search needs, any-start _)
+loop-holds c = (omega arith, any-start _)
 
 -- src/conditions.rt:79:13
 read-stream-requires : tie.Need-read-stream-requires Inv-loop μ-loop
-read-stream-requires c κs = search needs
+read-stream-requires c κs = omega arith
 
 -- src/conditions.rt:81:13
 returns : tie.Need-returns Inv-loop μ-loop
-returns c = sym (any-in _ _ (c .before .before .before .before .loop .j) (search needs) (cc (lt-ltb _ _ (c .if1 .taken))))
+returns c = sym (any-in _ _ (c .before .before .before .before .loop .j) (omega arith) (ap (λ (k : Stream). too-high (k .demand)) (sym (c .before .before .read-stream .ensures)) ∙ lt-ltb _ _ (c .if1 .taken)))
 
 -- src/conditions.rt:83:9
 add-j : tie.Need-add-j Inv-loop μ-loop
-add-j c = search needs
+add-j c = omega arith
 
 -- src/conditions.rt:78:5
 loop-less : tie.Need-loop-less Inv-loop μ-loop
-loop-less c = search needs
+loop-less c = omega arith
 
 -- src/conditions.rt:78:5
 loop-again : tie.Need-loop-again Inv-loop μ-loop
-loop-again c = (search needs, any-next _ _ (c .before .before .before .before .loop .inv .1) (cc (le-ltb _ _ (c .if1 .left))))
+loop-again c = (omega arith, any-next _ _ (c .before .before .before .before .loop .inv .1) (ap (λ (k : Stream). too-high (k .demand)) (sym (c .before .before .read-stream .ensures)) ∙ le-ltb _ _ (c .if1 .left)))
 
 -- src/conditions.rt:73:1
 returns-2 : tie.Need-returns-2 Inv-loop μ-loop
-returns-2 c = any-end _ _ _ (search needs) (search needs) (c .before .loop .inv .1)
+returns-2 c = any-end _ _ _ (omega arith) (omega arith) (c .before .loop .inv .1)
 
 pub any-stream-too-high-spec : {M : Type 1} → statement M
 any-stream-too-high-spec =

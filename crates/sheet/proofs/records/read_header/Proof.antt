@@ -1,3 +1,4 @@
+use native.Mathlib.Omega.{arith}
 use Rattle.sheet.specs.Layout.{header}
 use borrow.Author.Needs.{needs}
 use Rattle.sheet.proofs.records.read_header.Statement.{statement}
@@ -8,32 +9,44 @@ use Rattle.sheet.proofs.records.word.Reads as word-reads
 
 -- src/records.rt:31:19
 word-requires : tie.Need-word-requires
-word-requires c κs = search needs
+word-requires c κs = omega arith
 
 -- src/records.rt:32:19
 word-requires-2 : tie.Need-word-requires-2
-word-requires-2 c κs = search needs
+word-requires-2 c κs = omega arith
 
 -- src/records.rt:33:18
 word-requires-3 : tie.Need-word-requires-3
-word-requires-3 c κs = search needs
+word-requires-3 c κs = omega arith
 
 -- src/records.rt:34:22
 word-requires-4 : tie.Need-word-requires-4
-word-requires-4 c κs = search needs
+word-requires-4 c κs = omega arith
 
 -- src/records.rt:35:22
 word-requires-5 : tie.Need-word-requires-5
-word-requires-5 c κs = search needs
+word-requires-5 c κs = omega arith
 
 -- src/records.rt:36:21
 word-requires-6 : tie.Need-word-requires-6
-word-requires-6 c κs = search needs
+word-requires-6 c κs = omega arith
 
 -- src/records.rt:26:1
 returns : tie.Need-returns
 unfolding header
-returns c = (cc, search needs, search needs, search needs)
+returns c = (
+  simp (
+    c .word6 .ensures .0,
+    c .before .word5 .ensures .0,
+    c .before .before .word4 .ensures .0,
+    c .before .before .before .word3 .ensures .0,
+    c .before .before .before .before .word2 .ensures .0,
+    c .before .before .before .before .before .word .ensures .0,
+  ),
+  c .before .before .word4 .ensures .1,
+  c .before .word5 .ensures .1,
+  c .word6 .ensures .1,
+)
 
 pub read-header-spec : {M : Type 1} → statement M
 read-header-spec =
