@@ -1,0 +1,95 @@
+-- Every plan's cost, and every charge of a placing, is below 10^15, the largest number that a planner takes for a cost.
+use Prim.Native.Nat.{ℕ, _*_, _^_, _≤_, _<_}
+use native.Mathlib.Nat.{mul-le-mul, mul-le-mul-right}
+use native.Mathlib.Omega.{arith}
+use mathlib.Core.Path.{_≡_}
+use mathlib.Core.Bool.{Bool, true, _&&_, not}
+use lib.Dec.{eqb, ltb}
+use Rattle.finite.specs.Below.{only, sum-below}
+use Rattle.finite.proofs.Sums.{sum-le, only-le}
+use Rattle.subsets.specs.Sets.{has}
+use Rattle.subsets.specs.Tree.{under}
+use Rattle.subsets.specs.Costs.{some}
+use Rattle.subsets.specs.Net as nets
+use Rattle.subsets.specs.Net.{on, below, charge}
+use Rattle.sheet.specs.Instance.{Instance, WellFormed}
+use Rattle.embedding.specs.Plan.{fee, weight, in-range, cabinets-cost, plan-cost}
+use Rattle.embedding.specs.Charge.{leaving, entering, cabinet-charge, link-charge, net}
+use Rattle.embedding.proofs.Costs.{UpTo, up-to-provided, up-to-charged, up-to-add, up-to-total}
+use Rattle.embedding.proofs.Mappings.{range-test}
+use Rattle.embedding.proofs.Loads.{toll, links-cost-by-links}
+
+-- up to k numbers of up to m each
+some-of : (n k m : ℕ) (t : ℕ → Bool) (f : ℕ → ℕ) → n ≤ k → ((j : ℕ) → f j ≤ m) → sum-below n (λ j. only (t j) (f j)) ≤ k * m
+some-of n k m t f h l =
+    omega (arith, sum-le n m (λ j. only (t j) (f j)) (λ j _. omega (arith, only-le (t j) (f j), l j)), mul-le-mul-right m h)
+
+module _ (I : Instance) (W : WellFormed I) where
+  -- the demands of a set sum to at most 100,000
+  pub demand-le : (x : ℕ → Bool) → sum-below (I .r) (λ i. only (x i) (I .demand i)) ≤ 10 * 10000
+  demand-le x = some-of (I .r) 10 10000 x (I .demand) (W .services) (W .demands)
+
+  -- what leaves a set, where f is at most m
+  pub leaving-le : (m : ℕ) (f : ℕ → ℕ) → ((j : ℕ) → f j ≤ m) → (x : ℕ → Bool) → leaving I f x ≤ 100 * m
+  unfolding leaving
+  leaving-le m f h x = some-of (I .q) 100 m (λ j. x (I .from j) && not (x (I .to j))) f (W .streams) h
+
+  -- what enters a set, where f is at most m
+  pub entering-le : (m : ℕ) (f : ℕ → ℕ) → ((j : ℕ) → f j ≤ m) → (x : ℕ → Bool) → entering I f x ≤ 100 * m
+  unfolding entering
+  entering-le m f h x = some-of (I .q) 100 m (λ j. x (I .to j) && not (x (I .from j))) f (W .streams) h
+
+  -- a stream takes at most 10,000 of a link
+  pub weight-le : (j : ℕ) → weight I j ≤ 10000
+  unfolding weight
+  weight-le = W .loads
+
+module _ (I : Instance) (W : WellFormed I) (π : ℕ → ℕ) where
+  toll-le : (c : ℕ) → toll I π c ≤ 20000000000
+  toll-le c =
+      let x : ℕ → Bool = λ i. under (I .parent) c (π i) in
+      omega (arith, mul-le-mul (leaving-le I W 10000 (I .load) (W .loads) x) (W .up-prices c), mul-le-mul (entering-le I W 10000 (I .load) (W .loads) x) (W .down-prices c))
+
+  cabinets-le : cabinets-cost I π ≤ 1000000000
+  unfolding cabinets-cost fee
+  cabinets-le = omega (arith, W .services, sum-le (I .r) 100000000 (λ i. I .demand i * I .price (π i)) (λ i k. mul-le-mul (W .demands i) (W .prices (π i))))
+
+  links-le : sum-below (I .s) (λ c. only (ltb 0 c) (toll I π c)) ≤ 4000000000000
+  links-le = omega (
+    arith,
+    W .cabinets,
+    sum-le (I .s) 20000000000 (λ c. only (ltb 0 c) (toll I π c)) (λ c k. omega (arith, only-le (ltb 0 c) (toll I π c), toll-le c)),
+  )
+
+  -- the cost of a plan in range is below 10^15
+  pub cost-bound : in-range I π ≡ true → plan-cost I π < 10 ^ 15
+  unfolding plan-cost
+  cost-bound h = omega (arith, cabinets-le, links-le, links-cost-by-links I W π (range-test I π .0 h))
+
+module _ (I : Instance) (W : WellFormed I) where
+  -- what a cabinet charges for a set
+  pub cabinet-charge-le : (c x : ℕ) → UpTo 1000000000 (cabinet-charge I c x)
+  unfolding cabinet-charge fee
+  cabinet-charge-le c x = up-to-provided 1000000000 _ _ (omega (
+    arith,
+    W .services,
+    sum-le (I .r) 100000000 (λ i. only (has x i) (I .demand i * I .price c)) (λ i k.
+        omega (arith, only-le (has x i) (I .demand i * I .price c), mul-le-mul (W .demands i) (W .prices c))),
+  ))
+
+  -- what a link charges for a set
+  pub link-charge-le : (c x : ℕ) → UpTo 20000000000 (link-charge I c x)
+  unfolding link-charge
+  link-charge-le c x = up-to-provided 20000000000 _ _
+      (omega (arith, mul-le-mul (leaving-le I W 10000 (I .load) (W .loads) (has x)) (W .up-prices c), mul-le-mul (entering-le I W 10000 (I .load) (W .loads) (has x)) (W .down-prices c)))
+
+  -- the charge of a placing on a part is none or below 10^15
+  pub charge-bound : (T : ℕ → Bool) (v x : ℕ) (π : ℕ → ℕ) (n : ℕ) → charge (net I) T v x π ≡ some n → n < 10 ^ 15
+  unfolding nets.charge
+  charge-bound T v x π n e = omega (
+    arith,
+    W .cabinets,
+    up-to-add (I .s * 1000000000) (I .s * 20000000000) _ _
+        (up-to-total (I .s) 1000000000 _ (λ c. up-to-charged 1000000000 (T c) _ (cabinet-charge-le c (on (net I) π x c))))
+        (up-to-total (I .s) 20000000000 _ (λ c. up-to-charged 20000000000 (T c && not (eqb c v)) _ (link-charge-le c (below (net I) π x c)))) n e,
+  )

@@ -1,0 +1,17 @@
+-- Laws and theorems of the rule. The page to open is Theorems.
+pub mod Cases
+pub mod Edges
+pub mod Paths
+pub mod Feasible
+pub mod Mappings
+pub mod Cut
+pub mod Loads
+pub mod Bound
+pub mod Sets
+pub mod Costs
+pub mod Services
+pub mod Charges
+pub mod Digits
+pub mod Splits
+pub mod Cheapest
+pub mod Theorems

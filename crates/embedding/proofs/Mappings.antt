@@ -1,0 +1,155 @@
+-- A plan is valid at a cost exactly when some mapping over it is feasible by Definition 1, keeps the limits, and has that cost.
+use Prim.Native.Nat.{ℕ, _+_, _*_, _≤_, _<_}
+use native.Mathlib.Nat.{zero-add}
+use native.Mathlib.Omega.{arith}
+use mathlib.Core.Logic.{_↔_, _⊎_, inl, inr}
+use mathlib.Core.Path.{_≡_, refl, sym, ap, ap₂, _∙_, subst}
+use mathlib.Core.Bool.{true}
+use mathlib.Core.List.{List}
+use lib.Dec.{eqb, ltb, leb}
+use borrow.Author.Tests.{ltb-true, leb-true, lt-ltb, le-leb}
+use Rattle.finite.specs.Below.{_⇒_, only, sum-below, sum-over}
+use Rattle.finite.proofs.Booleans.{both, both-l, both-r, implies, implied}
+use Rattle.finite.proofs.Sums.{sum-ext, sum-over-ext}
+use Rattle.finite.proofs.Tests.{all-in, all-at}
+use Rattle.sheet.specs.Instance.{Instance, WellFormed}
+use Rattle.embedding.specs.Definition1.{member, SimplePath, node-load, edge-load, Feasible, cost}
+use Rattle.embedding.specs.Limits.{Limits}
+use Rattle.embedding.specs.Road.{up, down, lower, by-way, edge-price, tree, road}
+use Rattle.embedding.specs.Plan.{routes, fits, link-fits, fee, weight, carried, link-keeps, in-range, cabinets-keep, links-keep, valid, cabinets-cost, links-cost, plan-cost}
+use Rattle.embedding.proofs.Edges.{which, lower-pos, edge-lower, up-edge, down-edge, at-up, at-down}
+use Rattle.embedding.proofs.Paths.{path-simple, path-only}
+use Rattle.embedding.proofs.Feasible.{sums-suffice}
+
+-- every service has a cabinet of the road
+abbrev pub InRange : Instance → (ℕ → ℕ) → Type 0
+InRange I π = (i : ℕ) → i < I .r → π i < I .s
+
+module _ (I : Instance) where
+  -- ---- the tests of a plan, as facts
+
+  -- the test of the range is that every service has a cabinet of the road
+  pub range-test : (π : ℕ → ℕ) → (in-range I π ≡ true) ↔ InRange I π
+  unfolding in-range
+  range-test π = (
+    λ h i k. ltb-true (π i) (I .s) (all-at (I .r) (λ i. ltb (π i) (I .s)) h i k),
+    λ p. all-in (I .r) (λ i. ltb (π i) (I .s)) (λ i k. lt-ltb (π i) (I .s) (p i k)),
+  )
+
+  -- the test of the cabinets is the sum of demands on each of them
+  pub cabinets-test : (π : ℕ → ℕ) → (cabinets-keep I π ≡ true)
+      ↔ ((c : ℕ) → c < I .s → sum-below (I .r) (λ i. only (eqb (π i) c) (I .demand i)) ≤ I .capacity c)
+  unfolding cabinets-keep fits
+  cabinets-test π = (
+    λ h c k. leb-true _ _ (all-at (I .s) (λ c. fits I c (λ i. eqb (π i) c)) h c k),
+    λ p. all-in (I .s) (λ c. fits I c (λ i. eqb (π i) c)) (λ c k. le-leb _ _ (p c k)),
+  )
+
+  -- the test of the links is the load of each of their directions
+  pub links-test : (π : ℕ → ℕ) → (links-keep I π ≡ true)
+      ↔ ((c : ℕ) → 0 < c → c < I .s → (carried I π (up c) ≤ I .up-capacity c) × (carried I π (down c) ≤ I .down-capacity c))
+  unfolding links-keep link-keeps link-fits
+  links-test π = (
+    λ h c z k.
+        let t : link-keeps I π c ≡ true = implied (ltb 0 c) (link-keeps I π c) (all-at (I .s) (λ c. ltb 0 c ⇒ link-keeps I π c) h c k) (lt-ltb 0 c z) in
+        (leb-true _ _ (both-l (leb (carried I π (up c)) (I .up-capacity c)) _ t), leb-true _ _ (both-r (leb (carried I π (up c)) (I .up-capacity c)) _ t)),
+    λ p. all-in (I .s) (λ c. ltb 0 c ⇒ link-keeps I π c) (λ c k. implies (ltb 0 c) (link-keeps I π c) (λ z.
+        both _ _ (le-leb _ _ (p c (ltb-true 0 c z) k .0)) (le-leb _ _ (p c (ltb-true 0 c z) k .1)))),
+  )
+
+  -- a plan is valid when all three tests pass
+  pub valid-test : (π : ℕ → ℕ) → (valid I π ≡ true) ↔ ((in-range I π ≡ true) × (cabinets-keep I π ≡ true) × (links-keep I π ≡ true))
+  unfolding valid
+  valid-test π = (
+    λ h. (both-l (in-range I π) _ h, both-l (cabinets-keep I π) (links-keep I π) (both-r (in-range I π) _ h), both-r (cabinets-keep I π) (links-keep I π) (both-r (in-range I π) _ h)),
+    λ p. both (in-range I π) _ (p .0) (both (cabinets-keep I π) (links-keep I π) (p .1) (p .2)),
+  )
+
+  -- ---- the sums of Definition 1 at one amount
+
+  sum-1 : (f : ℕ → ℕ) → sum-below 1 f ≡ f 0
+  unfolding sum-below
+  sum-1 f = zero-add (f 0)
+
+  -- the cost of Definition 1 along the computed paths is the cost of the plan
+  pub cost-plan : (π : ℕ → ℕ) (ρ : ℕ → List ℕ) → ((j : ℕ) → j < I .q → ρ j ≡ routes I π j) → cost (road I) π ρ ≡ plan-cost I π
+  unfolding cost plan-cost cabinets-cost links-cost fee
+  cost-plan π ρ e =
+      ap₂ (λ (x y : ℕ). x + y)
+      (sum-ext (I .r) _ _ (λ i k. sum-1 (λ t. I .demand i * I .price (π i))))
+      (sum-ext (I .q) _ _ (λ j k.
+      sum-over-ext (λ e. sum-below 1 (λ t. I .load j * edge-price I e)) (λ e. I .load j * edge-price I e) (λ e. sum-1 (λ t. I .load j * edge-price I e)) (ρ j)
+      ∙ ap (sum-over (λ e. I .load j * edge-price I e)) (e j k)))
+
+  node-load-plan : (π : ℕ → ℕ) (ρ : ℕ → List ℕ) (c t : ℕ) → node-load (road I) π ρ c t ≡ sum-below (I .r) (λ i. only (eqb (π i) c) (I .demand i))
+  unfolding node-load
+  node-load-plan π ρ c t = refl
+
+  edge-load-plan : (π : ℕ → ℕ) (ρ : ℕ → List ℕ) → ((j : ℕ) → j < I .q → ρ j ≡ routes I π j) → (e t : ℕ) → edge-load (road I) π ρ e t ≡ carried I π e
+  unfolding edge-load carried weight
+  edge-load-plan π ρ r e t = sum-ext (I .q) _ _ (λ j k. ap (λ (l : List ℕ). only (member e l) (I .load j)) (r j k))
+
+  -- every mapping keeps the limits
+  pub limits-hold : (π : ℕ → ℕ) (ρ : ℕ → List ℕ) → Limits I π ρ
+  unfolding Limits
+  limits-hold π ρ = tt
+
+module _ (I : Instance) (W : WellFormed I) where
+  -- a mapping leaves no choice of paths
+  pub route-only : (π : ℕ → ℕ) (ρ : ℕ → List ℕ) → Feasible (road I) π ρ → (j : ℕ) → j < I .q → ρ j ≡ routes I π j
+  unfolding routes
+  route-only π ρ F j k =
+      path-only I W (π (I .from j)) (π (I .to j)) (F .valid .placed (I .from j) (W .from-service j k)) (F .valid .placed (I .to j) (W .to-service j k))
+      (ρ j) (F .valid .paths j k)
+
+  -- the computed paths of a plan are simple paths between the cabinets of its services
+  pub route-simple : (π : ℕ → ℕ) → InRange I π → (j : ℕ) → j < I .q → SimplePath (tree I) (π (I .from j)) (routes I π j) (π (I .to j))
+  unfolding routes
+  route-simple π p j k = path-simple I W (π (I .from j)) (π (I .to j)) (p (I .from j) (W .from-service j k)) (p (I .to j) (W .to-service j k))
+
+  feasible-valid : (π : ℕ → ℕ) (ρ : ℕ → List ℕ) → Feasible (road I) π ρ → valid I π ≡ true
+  feasible-valid π ρ F =
+      valid-test I π .1 (
+        range-test I π .1 (F .valid .placed),
+        cabinets-test I π .1 (λ c k. omega (arith, F .nodes-keep c k 0 (omega arith), node-load-plan I π ρ c 0)),
+        links-test I π .1 (λ c z k. (
+          omega (arith, F .edges-keep (up c) (up-edge I c z k) 0 (omega arith), edge-load-plan I π ρ (route-only π ρ F) (up c) 0, at-up I (I .up-capacity) (I .down-capacity) c z),
+          omega (arith, F .edges-keep (down c) (down-edge I c z k) 0 (omega arith), edge-load-plan I π ρ (route-only π ρ F) (down c) 0, at-down I (I .up-capacity) (I .down-capacity) c z),
+        )),
+      )
+
+  valid-feasible : (π : ℕ → ℕ) → valid I π ≡ true → Feasible (road I) π (routes I π)
+  valid-feasible π v =
+      let t = valid-test I π .0 v in
+      let p : InRange I π = range-test I π .0 (t .0) in
+      sums-suffice (road I) π (routes I π) p (route-simple π p)
+      (λ c k n _. omega (arith, cabinets-test I π .0 (t .1) c k, node-load-plan I π (routes I π) c n))
+      (λ e k n _. edge e n (edge-lower I e k) (links-test I π .0 (t .2)) (which e))
+    where
+      Kept : ℕ → ℕ → Type 0
+      Kept n e = edge-load (road I) π (routes I π) e n ≤ by-way e (I .up-capacity (lower e)) (I .down-capacity (lower e))
+
+      edge : (e n : ℕ) → lower e < I .s
+          → ((c : ℕ) → 0 < c → c < I .s → (carried I π (up c) ≤ I .up-capacity c) × (carried I π (down c) ≤ I .down-capacity c))
+          → (e ≡ up (lower e)) ⊎ (e ≡ down (lower e)) → Kept n e
+      edge e n k l (inl q) = subst (Kept n) (sym q) (omega (
+        arith,
+        l (lower e) (lower-pos e) k .0,
+        edge-load-plan I π (routes I π) (λ j k. refl) (up (lower e)) n,
+        at-up I (I .up-capacity) (I .down-capacity) (lower e) (lower-pos e),
+      ))
+      edge e n k l (inr q) = subst (Kept n) (sym q) (omega (
+        arith,
+        l (lower e) (lower-pos e) k .1,
+        edge-load-plan I π (routes I π) (λ j k. refl) (down (lower e)) n,
+        at-down I (I .up-capacity) (I .down-capacity) (lower e) (lower-pos e),
+      ))
+
+  -- a plan is valid at cost k exactly when some mapping over it is feasible, keeps the limits, and costs k
+  pub plan-iff-mapping : (π : ℕ → ℕ) (k : ℕ) →
+      ((valid I π ≡ true) × (plan-cost I π ≡ k))
+      ↔ ((ρ : ℕ → List ℕ) × Feasible (road I) π ρ × Limits I π ρ × (cost (road I) π ρ ≡ k))
+  plan-iff-mapping π k = (
+    λ v. (routes I π, valid-feasible π (v .0), limits-hold I π (routes I π), cost-plan I π (routes I π) (λ j k. refl) ∙ v .1),
+    λ m. (feasible-valid π (m .0) (m .1), sym (cost-plan I π (m .0) (route-only π (m .0) (m .1))) ∙ m .3),
+  )

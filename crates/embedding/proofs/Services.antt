@@ -1,0 +1,75 @@
+-- Everything about a plan or a set depends only on the services below r.
+use Prim.Native.Nat.{ℕ, _+_, _*_, _<_}
+use mathlib.Core.Path.{_≡_, ap, ap₂}
+use mathlib.Core.Bool.{Bool, _&&_, not}
+use lib.Dec.{eqb, ltb, leb}
+use Rattle.finite.specs.Below.{_⇒_, only, sum-over}
+use Rattle.finite.proofs.Sums.{sum-ext}
+use Rattle.finite.proofs.Tests.{all-ext}
+use Rattle.subsets.specs.Tree.{under}
+use Rattle.subsets.specs.Costs.{provided}
+use Rattle.sheet.specs.Instance.{Instance, WellFormed}
+use Rattle.embedding.specs.Definition1.{member}
+use Rattle.embedding.specs.Road.{up, down, edge-price}
+use Rattle.embedding.specs.Plan.{path, routes, fits, link-fits, fee, weight, carried, link-keeps, in-range, cabinets-keep, links-keep, valid, cabinets-cost, links-cost, plan-cost, worth}
+use Rattle.embedding.specs.Charge.{leaving, entering}
+use Rattle.embedding.proofs.Loads.{toll}
+
+module _ (I : Instance) (W : WellFormed I) where
+  -- ---- sets of services
+  module _ (x y : ℕ → Bool) (same : (i : ℕ) → i < I .r → x i ≡ y i) where
+    -- what a cabinet admits
+    pub fits-ext : (c : ℕ) → fits I c x ≡ fits I c y
+    unfolding fits
+    fits-ext c = ap (λ (n : ℕ). leb n (I .capacity c)) (sum-ext (I .r) _ _ (λ i k. ap (λ (t : Bool). only t (I .demand i)) (same i k)))
+
+    -- what leaves a set
+    pub leaving-ext : (f : ℕ → ℕ) → leaving I f x ≡ leaving I f y
+    unfolding leaving
+    leaving-ext f = sum-ext (I .q) _ _ (λ j k. ap₂ (λ (s t : Bool). only (s && not t) (f j)) (same _ (W .from-service j k)) (same _ (W .to-service j k)))
+
+    -- what enters a set
+    pub entering-ext : (f : ℕ → ℕ) → entering I f x ≡ entering I f y
+    unfolding entering
+    entering-ext f = sum-ext (I .q) _ _ (λ j k. ap₂ (λ (s t : Bool). only (s && not t) (f j)) (same _ (W .to-service j k)) (same _ (W .from-service j k)))
+
+  -- ---- plans
+  module _ (π σ : ℕ → ℕ) (same : (i : ℕ) → i < I .r → π i ≡ σ i) where
+    routes-ext : (j : ℕ) → j < I .q → routes I π j ≡ routes I σ j
+    unfolding routes
+    routes-ext j k = ap₂ (path I) (same (I .from j) (W .from-service j k)) (same (I .to j) (W .to-service j k))
+
+    carried-ext : (e : ℕ) → carried I π e ≡ carried I σ e
+    unfolding carried
+    carried-ext e = sum-ext (I .q) _ _ (λ j k. ap (λ l. only (member e l) (weight I j)) (routes-ext j k))
+
+    -- the test of a link
+    pub link-keeps-ext : (c : ℕ) → link-keeps I π c ≡ link-keeps I σ c
+    unfolding link-keeps
+    link-keeps-ext c = ap₂ (link-fits I c) (carried-ext (up c)) (carried-ext (down c))
+
+    -- what a link costs
+    pub toll-ext : (c : ℕ) → toll I π c ≡ toll I σ c
+    toll-ext c =
+        ap₂ (λ (m n : ℕ). m * I .up-price c + n * I .down-price c)
+        (leaving-ext (λ i. under (I .parent) c (π i)) (λ i. under (I .parent) c (σ i)) (λ i k. ap (under (I .parent) c) (same i k)) (I .load))
+        (entering-ext (λ i. under (I .parent) c (π i)) (λ i. under (I .parent) c (σ i)) (λ i k. ap (under (I .parent) c) (same i k)) (I .load))
+
+    valid-ext : valid I π ≡ valid I σ
+    unfolding valid in-range cabinets-keep links-keep
+    valid-ext =
+        ap₂ _&&_ (all-ext (I .r) _ _ (λ i k. ap (λ (z : ℕ). ltb z (I .s)) (same i k)))
+        (ap₂ _&&_
+        (all-ext (I .s) _ _ (λ c k. fits-ext (λ i. eqb (π i) c) (λ i. eqb (σ i) c) (λ i k. ap (λ (z : ℕ). eqb z c) (same i k)) c))
+        (all-ext (I .s) _ _ (λ c k. ap (λ (t : Bool). ltb 0 c ⇒ t) (link-keeps-ext c))))
+
+    plan-cost-ext : plan-cost I π ≡ plan-cost I σ
+    unfolding plan-cost cabinets-cost links-cost
+    plan-cost-ext =
+        ap₂ _+_ (sum-ext (I .r) _ _ (λ i k. ap (λ (c : ℕ). fee I c i) (same i k)))
+        (sum-ext (I .q) _ _ (λ j k. ap (sum-over (λ e. I .load j * edge-price I e)) (routes-ext j k)))
+
+    -- the cost of a plan if it is valid
+    pub worth-ext : worth I π ≡ worth I σ
+    unfolding worth
+    worth-ext = ap₂ provided valid-ext plan-cost-ext

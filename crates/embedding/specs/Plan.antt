@@ -1,0 +1,93 @@
+-- 01, "A valid plan and its cost". A plan π gives each service i the cabinet π i.
+use Prim.Native.Nat.{ℕ, zero, suc, _+_, _*_, _/_, _%_, _^_}
+use mathlib.Core.Bool.{Bool, true, false, _&&_}
+use mathlib.Core.List.{List, [], _∷_, _++_}
+use lib.Dec.{eqb, ltb, leb}
+use Rattle.finite.specs.Below.{_⇒_, only, sum-below, all-below, sum-over}
+use Rattle.subsets.specs.Costs.{Cost, provided, least-below}
+use Rattle.sheet.specs.Instance.{Instance}
+use Rattle.embedding.specs.Definition1.{member}
+use Rattle.embedding.specs.Road.{up, down, edge-price}
+
+-- The path from a to b: while the ends differ, the end with the larger number moves to its parent. This takes at most a + b moves.
+unfoldable pub path-within : (ℕ → ℕ) → ℕ → ℕ → ℕ → List ℕ
+path-within parent zero a b = []
+path-within parent (suc n) a b =
+    elim (eqb a b) [
+      | true ↦ []
+      | false ↦ elim (ltb b a) [ true ↦ up a ∷ path-within parent n (parent a) b | false ↦ path-within parent n a (parent b) ++ (down b ∷ []) ]
+    ]
+
+-- digit i of n to the base s: the cabinet of service i in the plan numbered n, of the s ^ r plans of r services on s cabinets
+unfoldable pub digit : ℕ → ℕ → ℕ → ℕ
+digit s n zero = n % s
+digit s n (suc i) = digit s (n / s) i
+
+module _ (I : Instance) where
+  -- the path from cabinet a to cabinet b
+  unfoldable pub path : ℕ → ℕ → List ℕ
+  path a b = path-within (I .parent) (a + b) a b
+
+  -- the path of stream j, from the cabinet of its one service to that of the other
+  unfoldable pub routes : (ℕ → ℕ) → ℕ → List ℕ
+  routes π j = path (π (I .from j)) (π (I .to j))
+
+  -- cabinet c admits the services for which x holds: their demands sum to at most its capacity
+  unfoldable pub fits : ℕ → (ℕ → Bool) → Bool
+  fits c x = leb (sum-below (I .r) (λ i. only (x i) (I .demand i))) (I .capacity c)
+
+  -- the link above c admits m upwards and n downwards: each is at most the capacity of its direction
+  unfoldable pub link-fits : ℕ → ℕ → ℕ → Bool
+  link-fits c m n = leb m (I .up-capacity c) && leb n (I .down-capacity c)
+
+  -- what cabinet c charges for service i
+  unfoldable pub fee : ℕ → ℕ → ℕ
+  fee c i = I .demand i * I .price c
+
+  -- what stream j takes of a link's capacity in the direction in which it runs
+  unfoldable pub weight : ℕ → ℕ
+  weight j = I .load j
+
+  -- what all streams that run along the edge e take of its capacity
+  unfoldable pub carried : (ℕ → ℕ) → ℕ → ℕ
+  carried π e = sum-below (I .q) (λ j. only (member e (routes π j)) (weight j))
+
+  -- neither direction of the link above c is overfull
+  unfoldable pub link-keeps : (ℕ → ℕ) → ℕ → Bool
+  link-keeps π c = link-fits c (carried π (up c)) (carried π (down c))
+
+  -- every service has a cabinet of the road
+  unfoldable pub in-range : (ℕ → ℕ) → Bool
+  in-range π = all-below (I .r) (λ i. ltb (π i) (I .s))
+
+  -- no cabinet is overfull
+  unfoldable pub cabinets-keep : (ℕ → ℕ) → Bool
+  cabinets-keep π = all-below (I .s) (λ c. fits c (λ i. eqb (π i) c))
+
+  -- no link is overfull in either direction
+  unfoldable pub links-keep : (ℕ → ℕ) → Bool
+  links-keep π = all-below (I .s) (λ c. ltb 0 c ⇒ link-keeps π c)
+
+  -- a plan is valid when it passes the three tests; source document 000 says feasible
+  unfoldable pub valid : (ℕ → ℕ) → Bool
+  valid π = in-range π && (cabinets-keep π && links-keep π)
+
+  -- what the cabinets charge for the services: for each service, demand × the price of its cabinet
+  unfoldable pub cabinets-cost : (ℕ → ℕ) → ℕ
+  cabinets-cost π = sum-below (I .r) (λ i. fee (π i) i)
+
+  -- what the links charge for the streams: for each stream and each link of its path, demand × the price of the direction taken
+  unfoldable pub links-cost : (ℕ → ℕ) → ℕ
+  links-cost π = sum-below (I .q) (λ j. sum-over (λ e. I .load j * edge-price I e) (routes π j))
+
+  -- the cost of a plan
+  unfoldable pub plan-cost : (ℕ → ℕ) → ℕ
+  plan-cost π = cabinets-cost π + links-cost π
+
+  -- the cost of a plan if it is valid
+  unfoldable pub worth : (ℕ → ℕ) → Cost
+  worth π = provided (valid π) (plan-cost π)
+
+  -- the least cost of a valid plan, all plans tried; none where no plan is valid
+  unfoldable pub cheapest : Cost
+  cheapest = least-below (I .s ^ I .r) (λ n. worth (digit (I .s) n))

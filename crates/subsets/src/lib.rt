@@ -1,0 +1,99 @@
+// Weighing a split, the powers of three, and sets of services as the binary digits of a number.
+ghost use mathlib.Core.Path.{_≡_};
+ghost use Prim.Native.Nat.{_-_};
+ghost use lib.Bits.{bitAnd};
+ghost use Rattle.subsets.specs.Sets.{has};
+ghost use Rattle.subsets.specs.Figures.{weighing};
+ghost use Rattle.subsets.specs.Powers.{power-of-three};
+
+// The largest figure that is a cost. Any number above it is 'none'.
+pub const LIMIT: u64 = 1000000000000000;
+
+// The figure that stands for 'none' where no other is given.
+pub const NONE: u64 = 1000000000000001;
+
+pub struct Weighed {
+    pub best: u64,
+    pub counted: u64,
+}
+
+// The best split of a set among those seen: its cost, the subset that it places, and how many splits counted.
+pub struct Best {
+    pub cost: u64,
+    pub chosen: usize,
+    pub counted: u64,
+}
+
+// Weighs one split: the lesser of `best` and the sum of the other three figures, and 1 where `placed` is a cost.
+pub fn weigh(best: u64, placed: u64, rest: u64, link: u64) -> Weighed
+    ensures { λ r. ⌜ r ≡ weighing best placed rest link ⌝ }
+{
+    if LIMIT < placed {
+        return Weighed {
+            best: best,
+            counted: 0,
+        };
+    }
+    if LIMIT < rest {
+        return Weighed {
+            best: best,
+            counted: 1,
+        };
+    }
+    if LIMIT < link {
+        return Weighed {
+            best: best,
+            counted: 1,
+        };
+    }
+    let sum = placed + rest + link;
+    if sum < best {
+        Weighed {
+            best: sum,
+            counted: 1,
+        }
+    } else {
+        Weighed {
+            best: best,
+            counted: 1,
+        }
+    }
+}
+
+const POWERS: [u64; 11] = [1, 3, 9, 27, 81, 243, 729, 2187, 6561, 19683, 59049];
+
+// A power of three, where the table has it.
+pub enum Power {
+    Value(u64),
+    Outside,
+}
+
+pub fn power_of_three(r: usize) -> Power
+    ensures { λ p. ⌜ p ≡ power-of-three r ⌝ }
+{
+    if r <= 10 {
+        Power::Value(POWERS[r])
+    } else {
+        Power::Outside
+    }
+}
+
+// The largest subset of x below a, where a is a subset of x and not empty.
+pub fn next_subset(a: usize, x: usize) -> usize
+    ensures { λ b. ⌜ b ≡ bitAnd (a - 1) x ⌝ }
+{
+    if a == 0 {
+        return 0;
+    }
+    (a - 1) & x
+}
+
+// Whether service i is in the set x.
+pub fn member(x: usize, i: usize) -> bool
+    ensures { λ b. ⌜ b ≡ has x i ⌝ }
+{
+    if 64 <= i {
+        return false;
+    }
+    (x >> i) & 1 == 1
+}
