@@ -19,6 +19,13 @@ number-of (Lender n) = n
 number-of (Road n) = n
 number-of (PlanWriter n) = n
 
+-- the number of a refusal's group: 1 whoever wrote the sheet, 2 whoever lends, 3 the road, 4 whoever wrote the plan
+abbrev pub group-of : Refusal → ℕ
+group-of (SheetWriter n) = 1
+group-of (Lender n) = 2
+group-of (Road n) = 3
+group-of (PlanWriter n) = 4
+
 -- a refusal's number, and whether its condition holds
 pub record Rule : Type 0 where
   pub number : ℕ

@@ -4,7 +4,7 @@ ghost use lib.ListN.{length, drop};
 ghost use Rattle.sheet.specs.Layout.{Bounded, Inside, header};
 ghost use Rattle.sheet.specs.Reading.{rules, answered, reading};
 ghost use Rattle.sheet.specs.Records.{service-record, cabinet-record, stream-record};
-ghost use Rattle.sheet.specs.Refusals.{number-of, lowest};
+ghost use Rattle.sheet.specs.Refusals.{number-of, group-of, lowest};
 
 mod blocks; // blocks.rt: where the three blocks lie
 mod conditions; // conditions.rt: the conditions of refusals 6 to 9 over all records
@@ -145,6 +145,18 @@ impl Refusal {
             Refusal::Lender(n) => n,
             Refusal::Road(n) => n,
             Refusal::PlanWriter(n) => n,
+        }
+    }
+
+    // 1 to 4, in the order of the groups above.
+    pub fn group(self) -> u64
+        ensures { λ n. ⌜ n ≡ group-of self ⌝ }
+    {
+        match self {
+            Refusal::SheetWriter(_) => 1,
+            Refusal::Lender(_) => 2,
+            Refusal::Road(_) => 3,
+            Refusal::PlanWriter(_) => 4,
         }
     }
 }

@@ -1,0 +1,2 @@
+-- What each entry point returns and writes.
+pub mod Reads

@@ -1,0 +1,2 @@
+// The C entry points: thin functions over the library's calls. native/include/gazrieksne.h documents them.
+mod reads; // reads.rt: gz_read, gz_service, gz_cabinet, gz_stream

@@ -1,0 +1,116 @@
+// The entry points of the reader.
+ghost use mathlib.Core.Path.{_≡_};
+ghost use Rattle.sheet.specs.Reading.{reading};
+ghost use Rattle.gazrieksne.specs.Reads.{read-number, read-counts, service-of, service-flag, service-words, cabinet-of, cabinet-flag, cabinet-words, stream-of, stream-flag, stream-words};
+use sheet::Cabinet;
+use sheet::CabinetRecord;
+use sheet::Reading;
+use sheet::Refusal;
+use sheet::Service;
+use sheet::ServiceRecord;
+use sheet::Sheet;
+use sheet::Stream;
+use sheet::StreamRecord;
+
+fn wide(n: u16) -> u64
+    ensures { λ r. ⌜ r ≡ n ⌝ }
+{
+    n as u64
+}
+
+// Group, services, cabinets and streams; the refusal's number, 0 for none.
+#[no_mangle]
+pub extern "C" fn gz_read(bytes: &[u8], counts: &mut [u64; 4]) -> u64
+    ensures number { λ r. ⌜ r ≡ read-number (reading (now (bytes .entry))) ⌝ }
+    ensures counts { λ r. ⌜ now (counts .exit) ≡ read-counts (reading (now (bytes .entry))) ⌝ }
+{
+    match sheet::read(bytes) {
+        Reading::Accepted(sheet) => {
+            *counts = [
+                0,
+                sheet.services() as u64,
+                sheet.cabinets() as u64,
+                sheet.streams() as u64,
+            ];
+            0
+        }
+        Reading::Refused(refusal) => {
+            *counts = [refusal.group(), 0, 0, 0];
+            wide(refusal.number())
+        }
+    }
+}
+
+fn find_service(bytes: &[u8], number: usize) -> ServiceRecord
+    ensures { λ r. ⌜ r ≡ service-of (reading (now (bytes .entry))) (now (bytes .entry)) number ⌝ }
+{
+    let Reading::Accepted(sheet) = sheet::read(bytes) else {
+        return ServiceRecord::Missing;
+    };
+    sheet.service(bytes, number)
+}
+
+fn find_cabinet(bytes: &[u8], number: usize) -> CabinetRecord
+    ensures { λ r. ⌜ r ≡ cabinet-of (reading (now (bytes .entry))) (now (bytes .entry)) number ⌝ }
+{
+    let Reading::Accepted(sheet) = sheet::read(bytes) else {
+        return CabinetRecord::Missing;
+    };
+    sheet.cabinet(bytes, number)
+}
+
+fn find_stream(bytes: &[u8], number: usize) -> StreamRecord
+    ensures { λ r. ⌜ r ≡ stream-of (reading (now (bytes .entry))) (now (bytes .entry)) number ⌝ }
+{
+    let Reading::Accepted(sheet) = sheet::read(bytes) else {
+        return StreamRecord::Missing;
+    };
+    sheet.stream(bytes, number)
+}
+
+// 1 and the demand, or 0 and the record as it was.
+#[no_mangle]
+pub extern "C" fn gz_service(bytes: &[u8], number: usize, words: &mut [u64; 1]) -> u64
+    ensures flag { λ r. ⌜ r ≡ service-flag (service-of (reading (now (bytes .entry))) (now (bytes .entry)) number) ⌝ }
+    ensures written { λ r. ⌜ now (words .exit) ≡ service-words (service-of (reading (now (bytes .entry))) (now (bytes .entry)) number) (now (words .entry)) ⌝ }
+{
+    let ServiceRecord::Given(k) = find_service(bytes, number) else {
+        return 0;
+    };
+    *words = [k.demand];
+    1
+}
+
+// 1 and the record's seven words, or 0 and the record as it was.
+#[no_mangle]
+pub extern "C" fn gz_cabinet(bytes: &[u8], number: usize, words: &mut [u64; 7]) -> u64
+    ensures flag { λ r. ⌜ r ≡ cabinet-flag (cabinet-of (reading (now (bytes .entry))) (now (bytes .entry)) number) ⌝ }
+    ensures written { λ r. ⌜ now (words .exit) ≡ cabinet-words (cabinet-of (reading (now (bytes .entry))) (now (bytes .entry)) number) (now (words .entry)) ⌝ }
+{
+    let CabinetRecord::Given(k) = find_cabinet(bytes, number) else {
+        return 0;
+    };
+    *words = [
+        k.parent as u64,
+        k.capacity,
+        k.price,
+        k.up_capacity,
+        k.up_price,
+        k.down_capacity,
+        k.down_price,
+    ];
+    1
+}
+
+// 1 and the record's three words, or 0 and the record as it was.
+#[no_mangle]
+pub extern "C" fn gz_stream(bytes: &[u8], number: usize, words: &mut [u64; 3]) -> u64
+    ensures flag { λ r. ⌜ r ≡ stream-flag (stream-of (reading (now (bytes .entry))) (now (bytes .entry)) number) ⌝ }
+    ensures written { λ r. ⌜ now (words .exit) ≡ stream-words (stream-of (reading (now (bytes .entry))) (now (bytes .entry)) number) (now (words .entry)) ⌝ }
+{
+    let StreamRecord::Given(t) = find_stream(bytes, number) else {
+        return 0;
+    };
+    *words = [t.from as u64, t.to as u64, t.demand];
+    1
+}
