@@ -1,2 +1,3 @@
 // The C entry points: thin functions over the library's calls. native/include/gazrieksne.h documents them.
 mod reads; // reads.rt: gz_read, gz_service, gz_cabinet, gz_stream
+mod weighs; // weighs.rt: gz_weigh

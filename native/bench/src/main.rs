@@ -1,0 +1,42 @@
+//! Times the proved planner beside the same algorithm in plain Rust, in one run, and prints a
+//! Markdown table. `bench [RUNS]`: the median of so many runs of each, 7 by default.
+#![forbid(unsafe_code)]
+
+mod roads;
+mod timing;
+
+use roads::Shape;
+
+const SERVICES: [usize; 4] = [4, 6, 8, 10];
+const CABINETS: [usize; 3] = [10, 50, 200];
+
+fn main() {
+    let argument = std::env::args().nth(1);
+    let runs = argument.and_then(|text| text.parse().ok()).unwrap_or(7);
+    println!("| road | services | cabinets | weighed | proved, ms | plain, ms | proved / plain |");
+    println!("|---|---:|---:|---:|---:|---:|---:|");
+    let (mut product, mut rows) = (0.0, 0.0);
+    for shape in Shape::ALL {
+        for services in SERVICES {
+            for cabinets in CABINETS {
+                let sheet = roads::sheet(shape, services, cabinets);
+                let times = timing::both(&sheet, runs);
+                let ratio = times.proved / times.plain;
+                println!(
+                    "| {} | {services} | {cabinets} | {} | {:.3} | {:.3} | {ratio:.2} |",
+                    shape.name(),
+                    times.count,
+                    times.proved * 1e3,
+                    times.plain * 1e3,
+                );
+                product += ratio.ln();
+                rows += 1.0;
+            }
+        }
+    }
+    println!();
+    println!(
+        "Geometric mean of the ratios: {:.2}",
+        (product / rows).exp()
+    );
+}

@@ -1,0 +1,47 @@
+//! The proved planner as the comparison calls it.
+
+use differ::Subject;
+use gazrieksne::calls;
+
+pub struct Proved;
+
+impl Subject for Proved {
+    fn read(&self, sheet: &[u8], counts: &mut [u64; 4]) -> u64 {
+        calls::read(sheet, counts)
+    }
+
+    fn service(&self, sheet: &[u8], number: usize, record: &mut [u64; 1]) -> u64 {
+        calls::service(sheet, number, record)
+    }
+
+    fn cabinet(&self, sheet: &[u8], number: usize, record: &mut [u64; 7]) -> u64 {
+        calls::cabinet(sheet, number, record)
+    }
+
+    fn stream(&self, sheet: &[u8], number: usize, record: &mut [u64; 3]) -> u64 {
+        calls::stream(sheet, number, record)
+    }
+
+    fn check(&self, sheet: &[u8], plan: &[u16], answer: &mut [u64; 2]) -> u64 {
+        calls::check(sheet, plan, answer)
+    }
+
+    fn plan(
+        &self,
+        sheet: &[u8],
+        output: &mut [u16],
+        costs: &mut [u64],
+        choices: &mut [u16],
+        answer: &mut [u64; 3],
+    ) -> u64 {
+        calls::plan(sheet, output, costs, choices, answer)
+    }
+
+    fn weigh(&self, [best, placed, rest, link]: [u64; 4], answer: &mut [u64; 1]) -> u64 {
+        calls::weigh(best, placed, rest, link, answer)
+    }
+
+    fn bound(&self, services: usize, cabinets: usize, answer: &mut [u64; 2]) -> u64 {
+        calls::bound(services, cabinets, answer)
+    }
+}

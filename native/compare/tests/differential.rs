@@ -1,0 +1,26 @@
+//! The proved planner and the second one give the same answers, and every refusal is among them.
+
+use compare::{Options, run};
+
+#[test]
+fn no_difference_and_every_refusal() {
+    let options = Options {
+        cases: 4000,
+        large: 4,
+        seed: 11,
+        ..Options::default()
+    };
+    let tally = run(&options).unwrap_or_else(|difference| panic!("{difference}"));
+    for refusal in 0..=9 {
+        assert!(tally.times("read", refusal) > 0, "read: {refusal}");
+    }
+    for refusal in (0..=9).chain(13..=16) {
+        assert!(tally.times("check", refusal) > 0, "check: {refusal}");
+    }
+    for refusal in 0..=12 {
+        assert!(tally.times("plan", refusal) > 0, "plan: {refusal}");
+    }
+    for refusal in [0, 2] {
+        assert!(tally.times("bound", refusal) > 0, "bound: {refusal}");
+    }
+}

@@ -1,0 +1,31 @@
+//! Compares the check.
+
+use crate::guarded::{Guarded, same};
+use crate::{Subject, Tally};
+use second::group;
+use second::random::Random;
+
+/// The refusal, the group and the cost of a plan.
+pub fn check(
+    subject: &dyn Subject,
+    sheet: &[u8],
+    plan: &[u16],
+    random: &mut Random,
+    tally: &mut Tally,
+) -> Result<(), String> {
+    let (right, cost) = match second::check(sheet, plan) {
+        Ok(cost) => (0, cost),
+        Err(refusal) => (refusal, 0),
+    };
+    let call = format!("check {plan:?}");
+    let sheet = Guarded::holding(random, sheet);
+    let plan = Guarded::holding(random, plan);
+    let mut answer = Guarded::dirty(random, 2);
+    let refusal = subject.check(sheet.inside(), plan.inside(), answer.array());
+    same(&call, refusal, right)?;
+    answer.expect(&format!("{call}: answer"), &[group(right), cost])?;
+    sheet.expect_same(&format!("{call}: sheet"))?;
+    plan.expect_same(&format!("{call}: plan"))?;
+    tally.answer("check", right);
+    Ok(())
+}

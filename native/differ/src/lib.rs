@@ -1,0 +1,57 @@
+//! Compares any implementation of the interface with the second planner: every answer, and every
+//! place of what is lent.
+#![forbid(unsafe_code)]
+
+mod checks;
+mod figures;
+mod guarded;
+mod planner;
+mod reader;
+mod subject;
+mod tally;
+
+pub use subject::Subject;
+pub use tally::Tally;
+
+use second::hex::dump;
+use second::random::{Case, Random};
+
+/// Makes all calls of a case, and some of those that take no sheet. The error tells the first
+/// difference.
+pub fn compare(
+    subject: &dyn Subject,
+    case: &Case,
+    random: &mut Random,
+    tally: &mut Tally,
+) -> Result<(), String> {
+    tally.case(case);
+    calls(subject, case, random, tally).map_err(|what| describe(case, &what))
+}
+
+fn calls(
+    subject: &dyn Subject,
+    case: &Case,
+    random: &mut Random,
+    tally: &mut Tally,
+) -> Result<(), String> {
+    reader::read(subject, &case.sheet, random, tally)?;
+    reader::records(subject, &case.sheet, random, tally)?;
+    for plan in &case.plans {
+        checks::check(subject, &case.sheet, plan, random, tally)?;
+    }
+    for &lent in &case.lent {
+        planner::plan(subject, &case.sheet, lent, random, tally)?;
+    }
+    figures::weigh(subject, random, tally)?;
+    figures::bound(subject, random, tally)
+}
+
+/// The difference with the sheet in full.
+fn describe(case: &Case, what: &str) -> String {
+    let Case { origin, sheet, .. } = case;
+    format!(
+        "{what}\ncase: {origin:?}\nsheet of {} bytes:\n{}",
+        sheet.len(),
+        dump(sheet)
+    )
+}

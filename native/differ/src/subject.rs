@@ -1,0 +1,27 @@
+//! The interface, as the comparison calls it.
+
+/// An implementation of the interface. Calls give the refusal number, 0 for none, but for the
+/// record calls (1 if the record is there) and `weigh` (its flag). All places of `counts` and
+/// `answer` are written on every call; `record` only when the record is there.
+pub trait Subject {
+    /// Counts: group, services, cabinets, streams.
+    fn read(&self, sheet: &[u8], counts: &mut [u64; 4]) -> u64;
+    fn service(&self, sheet: &[u8], number: usize, record: &mut [u64; 1]) -> u64;
+    fn cabinet(&self, sheet: &[u8], number: usize, record: &mut [u64; 7]) -> u64;
+    fn stream(&self, sheet: &[u8], number: usize, record: &mut [u64; 3]) -> u64;
+    /// Answer: group, cost.
+    fn check(&self, sheet: &[u8], plan: &[u16], answer: &mut [u64; 2]) -> u64;
+    /// Answer: group, cost, count.
+    fn plan(
+        &self,
+        sheet: &[u8],
+        output: &mut [u16],
+        costs: &mut [u64],
+        choices: &mut [u16],
+        answer: &mut [u64; 3],
+    ) -> u64;
+    /// Answer: the figure.
+    fn weigh(&self, figures: [u64; 4], answer: &mut [u64; 1]) -> u64;
+    /// Answer: group, bound.
+    fn bound(&self, services: usize, cabinets: usize, answer: &mut [u64; 2]) -> u64;
+}

@@ -1,0 +1,50 @@
+//! Counts of cases by kind and of calls by answer.
+
+use second::random::Case;
+use std::collections::BTreeMap;
+use std::fmt::{Display, Formatter, Result};
+
+#[derive(Default)]
+pub struct Tally {
+    cases: usize,
+    kinds: BTreeMap<String, usize>,
+    answers: BTreeMap<&'static str, BTreeMap<u64, usize>>,
+}
+
+impl Tally {
+    pub fn case(&mut self, case: &Case) {
+        self.cases += 1;
+        *self.kinds.entry(format!("{:?}", case.origin)).or_default() += 1;
+    }
+
+    pub fn answer(&mut self, call: &'static str, answer: u64) {
+        let answers = self.answers.entry(call).or_default();
+        *answers.entry(answer).or_default() += 1;
+    }
+
+    pub fn cases(&self) -> usize {
+        self.cases
+    }
+
+    /// How often a call gave an answer.
+    pub fn times(&self, call: &str, answer: u64) -> usize {
+        let answers = self.answers.get(call);
+        answers.and_then(|a| a.get(&answer)).copied().unwrap_or(0)
+    }
+}
+
+impl Display for Tally {
+    fn fmt(&self, f: &mut Formatter<'_>) -> Result {
+        writeln!(f, "cases by kind:")?;
+        for (kind, times) in &self.kinds {
+            writeln!(f, "{times:9} {kind}")?;
+        }
+        for (call, answers) in &self.answers {
+            writeln!(f, "{call} by answer:")?;
+            for (answer, times) in answers {
+                writeln!(f, "{times:9} {answer}")?;
+            }
+        }
+        Ok(())
+    }
+}

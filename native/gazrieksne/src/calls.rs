@@ -1,0 +1,81 @@
+//! The functions of the archive as safe calls of the same shape: slices for pointers and lengths,
+//! arrays for results.
+//!
+//! Safety is the same for all: a reference is never null, is aligned, and points to as many
+//! elements as its length says; references that are written overlap no other.
+
+use crate::raw;
+
+/// `gz_read`: the refusal; counts are group, services, cabinets, streams.
+pub fn read(sheet: &[u8], counts: &mut [u64; 4]) -> u64 {
+    // SAFETY: see the head of this file.
+    unsafe { raw::gz_read(sheet.as_ptr(), sheet.len(), counts) }
+}
+
+/// `gz_service`: 1 if the record is there.
+pub fn service(sheet: &[u8], number: usize, record: &mut [u64; 1]) -> u64 {
+    // SAFETY: see the head of this file.
+    unsafe { raw::gz_service(sheet.as_ptr(), sheet.len(), number, record) }
+}
+
+/// `gz_cabinet`: 1 if the record is there.
+pub fn cabinet(sheet: &[u8], number: usize, record: &mut [u64; 7]) -> u64 {
+    // SAFETY: see the head of this file.
+    unsafe { raw::gz_cabinet(sheet.as_ptr(), sheet.len(), number, record) }
+}
+
+/// `gz_stream`: 1 if the record is there.
+pub fn stream(sheet: &[u8], number: usize, record: &mut [u64; 3]) -> u64 {
+    // SAFETY: see the head of this file.
+    unsafe { raw::gz_stream(sheet.as_ptr(), sheet.len(), number, record) }
+}
+
+/// `gz_check`: the refusal; the answer is group, cost.
+pub fn check(sheet: &[u8], plan: &[u16], answer: &mut [u64; 2]) -> u64 {
+    // SAFETY: see the head of this file.
+    unsafe {
+        raw::gz_check(
+            sheet.as_ptr(),
+            sheet.len(),
+            plan.as_ptr(),
+            plan.len(),
+            answer,
+        )
+    }
+}
+
+/// `gz_plan`: the refusal; the answer is group, cost, count.
+pub fn plan(
+    sheet: &[u8],
+    output: &mut [u16],
+    costs: &mut [u64],
+    choices: &mut [u16],
+    answer: &mut [u64; 3],
+) -> u64 {
+    // SAFETY: see the head of this file.
+    unsafe {
+        raw::gz_plan(
+            sheet.as_ptr(),
+            sheet.len(),
+            output.as_mut_ptr(),
+            output.len(),
+            costs.as_mut_ptr(),
+            costs.len(),
+            choices.as_mut_ptr(),
+            choices.len(),
+            answer,
+        )
+    }
+}
+
+/// `gz_weigh`: the flag; the answer is the figure.
+pub fn weigh(best: u64, placed: u64, rest: u64, link: u64, answer: &mut [u64; 1]) -> u64 {
+    // SAFETY: see the head of this file.
+    unsafe { raw::gz_weigh(best, placed, rest, link, answer) }
+}
+
+/// `gz_bound`: the refusal; the answer is group, bound.
+pub fn bound(services: usize, cabinets: usize, answer: &mut [u64; 2]) -> u64 {
+    // SAFETY: see the head of this file.
+    unsafe { raw::gz_bound(services, cabinets, answer) }
+}

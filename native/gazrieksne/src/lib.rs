@@ -1,0 +1,142 @@
+//! The proved planner for tree-shaped toll roads, in safe Rust.
+//!
+//! The functions here answer with Rust's own types; `calls` has the same functions in the shape
+//! of the C interface, whose header, `gazrieksne.h`, tells what a sheet, a plan and a refusal are.
+
+pub mod calls;
+mod raw;
+mod refusal;
+
+pub use refusal::{Group, Refusal};
+
+/// The numbers of services, cabinets and streams of an accepted sheet.
+#[derive(Clone, Copy, Debug, PartialEq, Eq)]
+pub struct Counts {
+    pub services: usize,
+    pub cabinets: usize,
+    pub streams: usize,
+}
+
+impl Counts {
+    /// The entries that each table of the planner needs.
+    pub fn entries(&self) -> usize {
+        self.cabinets << self.services
+    }
+}
+
+/// A cabinet and the link to its parent; the root's parent is 65535.
+#[derive(Clone, Copy, Debug, PartialEq, Eq)]
+pub struct Cabinet {
+    pub parent: u64,
+    pub capacity: u64,
+    pub price: u64,
+    pub up_capacity: u64,
+    pub up_price: u64,
+    pub down_capacity: u64,
+    pub down_price: u64,
+}
+
+/// A stream from one service to another.
+#[derive(Clone, Copy, Debug, PartialEq, Eq)]
+pub struct Stream {
+    pub from: u64,
+    pub to: u64,
+    pub demand: u64,
+}
+
+/// The cost of a cheapest plan and the count of splits weighed.
+#[derive(Clone, Copy, Debug, PartialEq, Eq)]
+pub struct Planned {
+    pub cost: u64,
+    pub count: u64,
+}
+
+/// Reads a sheet.
+pub fn read(sheet: &[u8]) -> Result<Counts, Refusal> {
+    let mut counts = [0; 4];
+    let number = calls::read(sheet, &mut counts);
+    let [group, services, cabinets, streams] = counts;
+    match Refusal::of(number, group, 0) {
+        Some(refusal) => Err(refusal),
+        None => Ok(Counts {
+            services: services as usize,
+            cabinets: cabinets as usize,
+            streams: streams as usize,
+        }),
+    }
+}
+
+/// The demand of a service, if the sheet is accepted and has it.
+pub fn service(sheet: &[u8], number: usize) -> Option<u64> {
+    let mut record = [0; 1];
+    (calls::service(sheet, number, &mut record) == 1).then_some(record[0])
+}
+
+/// A cabinet, if the sheet is accepted and has it.
+pub fn cabinet(sheet: &[u8], number: usize) -> Option<Cabinet> {
+    let mut record = [0; 7];
+    let found = calls::cabinet(sheet, number, &mut record) == 1;
+    let [
+        parent,
+        capacity,
+        price,
+        up_capacity,
+        up_price,
+        down_capacity,
+        down_price,
+    ] = record;
+    found.then_some(Cabinet {
+        parent,
+        capacity,
+        price,
+        up_capacity,
+        up_price,
+        down_capacity,
+        down_price,
+    })
+}
+
+/// A stream, if the sheet is accepted and has it.
+pub fn stream(sheet: &[u8], number: usize) -> Option<Stream> {
+    let mut record = [0; 3];
+    let found = calls::stream(sheet, number, &mut record) == 1;
+    let [from, to, demand] = record;
+    found.then_some(Stream { from, to, demand })
+}
+
+/// The cost of a plan that gives each service a cabinet.
+pub fn check(sheet: &[u8], plan: &[u16]) -> Result<u64, Refusal> {
+    let mut answer = [0; 2];
+    let number = calls::check(sheet, plan, &mut answer);
+    let [group, cost] = answer;
+    Refusal::of(number, group, 0).map_or(Ok(cost), Err)
+}
+
+/// Finds a cheapest plan. It is written to the first places of the output, one a service; the
+/// tables are to work in, `Counts::entries` each.
+pub fn plan(
+    sheet: &[u8],
+    output: &mut [u16],
+    costs: &mut [u64],
+    choices: &mut [u16],
+) -> Result<Planned, Refusal> {
+    let mut answer = [0; 3];
+    let number = calls::plan(sheet, output, costs, choices, &mut answer);
+    let [group, cost, count] = answer;
+    Refusal::of(number, group, count).map_or(Ok(Planned { cost, count }), Err)
+}
+
+/// The figure and the flag of one split; a figure above 10^15 is 'none'.
+pub fn weigh(best: u64, placed: u64, rest: u64, link: u64) -> (u64, bool) {
+    let mut answer = [0; 1];
+    let flag = calls::weigh(best, placed, rest, link, &mut answer);
+    (answer[0], flag == 1)
+}
+
+/// The bound on the splits weighed.
+pub fn bound(services: usize, cabinets: usize) -> Result<u64, Refusal> {
+    let mut answer = [0; 2];
+    let number = calls::bound(services, cabinets, &mut answer);
+    let [group, bound] = answer;
+    Refusal::of(number, group, 0).map_or(Ok(bound), Err)
+}

@@ -1,0 +1,43 @@
+//! The functions of the archive, as `gazrieksne.h` declares them.
+
+unsafe extern "C" {
+    pub fn gz_read(sheet: *const u8, sheet_len: usize, counts: *mut [u64; 4]) -> u64;
+    pub fn gz_service(
+        sheet: *const u8,
+        sheet_len: usize,
+        number: usize,
+        record: *mut [u64; 1],
+    ) -> u64;
+    pub fn gz_cabinet(
+        sheet: *const u8,
+        sheet_len: usize,
+        number: usize,
+        record: *mut [u64; 7],
+    ) -> u64;
+    pub fn gz_stream(
+        sheet: *const u8,
+        sheet_len: usize,
+        number: usize,
+        record: *mut [u64; 3],
+    ) -> u64;
+    pub fn gz_check(
+        sheet: *const u8,
+        sheet_len: usize,
+        plan: *const u16,
+        plan_len: usize,
+        answer: *mut [u64; 2],
+    ) -> u64;
+    pub fn gz_plan(
+        sheet: *const u8,
+        sheet_len: usize,
+        output: *mut u16,
+        output_len: usize,
+        costs: *mut u64,
+        costs_len: usize,
+        choices: *mut u16,
+        choices_len: usize,
+        answer: *mut [u64; 3],
+    ) -> u64;
+    pub fn gz_weigh(best: u64, placed: u64, rest: u64, link: u64, answer: *mut [u64; 1]) -> u64;
+    pub fn gz_bound(services: usize, cabinets: usize, answer: *mut [u64; 2]) -> u64;
+}

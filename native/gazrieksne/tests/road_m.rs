@@ -1,0 +1,70 @@
+//! The calls on the measured road M.
+
+use gazrieksne::{Cabinet, Counts, Group, Planned, Stream};
+
+const M: [u16; 34] = [
+    2, 3, 1, 16, 20, 62, 68, 0, 2, 2, 65535, 4, 5, 0, 0, 0, 0, 0, 3, 1, 6, 2, 6, 1, 0, 3, 2, 2, 1,
+    6, 1, 0, 1, 3,
+];
+
+fn m() -> Vec<u8> {
+    M.iter().flat_map(|w| w.to_le_bytes()).collect()
+}
+
+#[test]
+fn read_and_records() {
+    let counts = Counts {
+        services: 2,
+        cabinets: 3,
+        streams: 1,
+    };
+    assert_eq!(gazrieksne::read(&m()), Ok(counts));
+    assert_eq!(counts.entries(), 12);
+    assert_eq!(gazrieksne::service(&m(), 1), Some(2));
+    assert_eq!(gazrieksne::service(&m(), 2), None);
+    let second = Cabinet {
+        parent: 0,
+        capacity: 3,
+        price: 2,
+        up_capacity: 2,
+        up_price: 1,
+        down_capacity: 6,
+        down_price: 1,
+    };
+    assert_eq!(gazrieksne::cabinet(&m(), 2), Some(second));
+    let only = Stream {
+        from: 0,
+        to: 1,
+        demand: 3,
+    };
+    assert_eq!(gazrieksne::stream(&m(), 0), Some(only));
+    assert_eq!(gazrieksne::stream(&m(), 1), None);
+    let refusal = gazrieksne::read(&m()[..67]).unwrap_err();
+    assert_eq!((refusal.number, refusal.group), (3, Group::SheetWriter));
+}
+
+#[test]
+fn check_and_plan() {
+    assert_eq!(gazrieksne::check(&m(), &[1, 0]), Ok(18));
+    let refusal = gazrieksne::check(&m(), &[2, 0]).unwrap_err();
+    assert_eq!((refusal.number, refusal.group), (16, Group::PlanWriter));
+    let (mut output, mut costs, mut choices) = ([9; 3], [9; 13], [9; 13]);
+    let planned = gazrieksne::plan(&m(), &mut output, &mut costs, &mut choices);
+    let right = Planned {
+        cost: 15,
+        count: 18,
+    };
+    assert_eq!(planned, Ok(right));
+    assert_eq!(gazrieksne::check(&m(), &output[..2]), Ok(15));
+    assert_eq!((output[2], costs[12], choices[12]), (9, 9, 9));
+    assert_eq!((&costs[..12], &choices[..12]), (&[0; 12][..], &[0; 12][..]));
+    let refusal = gazrieksne::plan(&m(), &mut [], &mut costs, &mut choices).unwrap_err();
+    assert_eq!((refusal.number, refusal.group), (10, Group::Lender));
+}
+
+#[test]
+fn figures() {
+    assert_eq!(gazrieksne::weigh(10, 1, 2, 3), (6, true));
+    assert_eq!(gazrieksne::bound(2, 3), Ok(18));
+    assert!(gazrieksne::bound(11, 3).is_err());
+}

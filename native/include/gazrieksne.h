@@ -1,0 +1,140 @@
+/* gazrieksne.h: the proved planner for tree-shaped toll roads, as a C interface.
+ *
+ * A planning sheet describes services with demands, cabinets that form a tree and have room for
+ * services, and streams between services. The library reads sheets, checks plans, and finds a
+ * cheapest plan. It keeps no state, allocates nothing, and calls nothing of yours; any number of
+ * threads may call it at once, each with memory of its own.
+ *
+ * The sheet
+ * ---------
+ * A sheet is bytes. Every field is an unsigned 16-bit word, low byte first. The header has eight
+ * words: r (services, 0 to 10), s (cabinets, 1 to 200), q (streams, 0 to 100), the byte offsets of
+ * the service, cabinet and stream blocks, the sheet's length in bytes, and 0. Blocks may come in
+ * any order, at odd offsets too, with unused bytes between.
+ *   service, 2 bytes:  demand
+ *   cabinet, 14 bytes: parent, capacity, price, up capacity, up price, down capacity, down price
+ *   stream, 6 bytes:   from, to, demand
+ * Services, cabinets and streams are numbered from 0. Cabinet 0 is the root: its parent is 65535
+ * and its four link fields are 0. The parent of any other cabinet has a smaller number. "Up" runs
+ * from a cabinet to its parent, "down" from the parent to it. The ends of a stream are two
+ * different services; several streams may join the same pair. Demands, capacities and prices are
+ * 0 to 10,000.
+ *
+ * A plan
+ * ------
+ * A plan gives each service a cabinet. A stream runs along the only simple path between the
+ * cabinets of its ends. The plan is valid when no cabinet holds, and no direction of a link
+ * carries, more demand than its capacity. Its cost is demand times price, summed over the services
+ * (by their cabinets) and over each link of each stream's path (by the direction taken).
+ *
+ * What calls answer
+ * -----------------
+ * Calls return 0 or the number of a refusal; gz_service, gz_cabinet, gz_stream and gz_weigh return
+ * something else, told there. The arrays `counts` and `answer` are results: every place of them is
+ * written on every call, whatever they held, with 0 where there is nothing to tell. Their first
+ * place holds the group of the refusal, that is, who can have caused it. If several refusals
+ * apply, the lowest number is given.
+ *
+ *   group 0: no refusal
+ *   group 1: whoever wrote the sheet
+ *      1  fewer than 16 bytes
+ *      2  r, s or q outside its limits, or the eighth word not 0
+ *      3  the length word is not the sheet's length
+ *      4  a block's offset is below 16, or the block ends past the length (empty blocks too)
+ *      5  two blocks share a byte
+ *      6  a demand, capacity or price above 10,000
+ *      7  a wrong parent
+ *      8  a stream end is not below r, or both ends are the same
+ *      9  a link field of cabinet 0 is not 0
+ *   group 2: whoever lends memory to the planner
+ *     10  the output is shorter than r places
+ *     11  a table is shorter than s * 2^r entries
+ *   group 3: the road
+ *     12  no valid plan exists
+ *   group 4: whoever wrote the plan
+ *     13  it hasn't exactly r places
+ *     14  a cabinet number is not below s
+ *     15  a cabinet is overfull
+ *     16  a direction of a link is overfull
+ *
+ * Pointers
+ * --------
+ * No pointer may be null, even where its length is 0. Each points to at least as many elements as
+ * its length or its array bound says, aligned for their type. Memory that a call writes must not
+ * overlap other memory of the same call. Lengths count elements: bytes for a sheet, places or
+ * entries for everything else. A call reads nothing outside the lengths given, and writes nothing
+ * but what is told with it.
+ */
+#ifndef GAZRIEKSNE_H
+#define GAZRIEKSNE_H
+
+#include <stddef.h>
+#include <stdint.h>
+
+#ifdef __cplusplus
+extern "C" {
+#endif
+
+/* Reads a sheet. Returns 0 if it is accepted, else 1 to 9.
+ *   sheet, sheet_len  the bytes of the sheet and their number
+ *   counts            group, r, s, q; the last three are 0 in a refusal */
+uint64_t gz_read(const uint8_t *sheet, size_t sheet_len, uint64_t counts[4]);
+
+/* Gives a service by its number. Returns 1 if it is there; 0 if the sheet is refused or has no
+ * service of this number, and then the record is left untouched.
+ *   record  demand */
+uint64_t gz_service(const uint8_t *sheet, size_t sheet_len, size_t number, uint64_t record[1]);
+
+/* Gives a cabinet by its number, in the same way.
+ *   record  parent (65535 for the root), capacity, price, up capacity, up price, down capacity,
+ *           down price */
+uint64_t gz_cabinet(const uint8_t *sheet, size_t sheet_len, size_t number, uint64_t record[7]);
+
+/* Gives a stream by its number, in the same way.
+ *   record  from, to, demand */
+uint64_t gz_stream(const uint8_t *sheet, size_t sheet_len, size_t number, uint64_t record[3]);
+
+/* Checks a plan. Returns 0 if it is valid, else 1 to 9 or 13 to 16.
+ *   plan, plan_len  the cabinet of each service, in order, and how many there are
+ *   answer          group, cost; the cost is 0 in a refusal */
+uint64_t gz_check(const uint8_t *sheet, size_t sheet_len, const uint16_t *plan, size_t plan_len,
+                  uint64_t answer[2]);
+
+/* Finds a cheapest plan. Returns 0 if there is one, else 1 to 12.
+ *   output, output_len    places for the plan, r or more. On success the first r hold the cabinet
+ *                         of each service, in order. Other places stay as they are, and in a
+ *                         refusal all do.
+ *   costs, costs_len      a table to work in, s * 2^r entries or more
+ *   choices, choices_len  another one. What the tables hold before is of no matter. After success
+ *                         and after 12 their first s * 2^r entries are 0 and all others as before;
+ *                         after any other refusal all entries are as before.
+ *   answer                group, cost, count. The cost is 0 in a refusal. The count is the number
+ *                         of splits weighed, told on success and with 12, else 0; it is never
+ *                         above the bound that gz_bound gives.
+ * Tables of 200 * 1024 entries and an output of 10 places suffice for any sheet. */
+uint64_t gz_plan(const uint8_t *sheet, size_t sheet_len, uint16_t *output, size_t output_len,
+                 uint64_t *costs, size_t costs_len, uint16_t *choices, size_t choices_len,
+                 uint64_t answer[3]);
+
+/* Weighs one split of a set X of services into A, on the part of the road before a cabinet, and
+ * the rest, on that cabinet and all under it. A figure up to 10^15 is a cost; a larger one means
+ * 'none'. Any figures are fine.
+ *   best    the best so far for X
+ *   placed  what A costs on the part before the cabinet
+ *   rest    what the rest costs on the cabinet and all under it
+ *   link    what the cabinet's link charges for the rest
+ *   answer  if placed, rest and link are costs, the lesser of best and their sum; else best as it
+ *           came
+ * Returns the flag: 1 if placed is a cost, else 0. */
+uint64_t gz_weigh(uint64_t best, uint64_t placed, uint64_t rest, uint64_t link, uint64_t answer[1]);
+
+/* Gives the bound on the splits weighed, (s - 1) * 3^r. Returns 0, or 2 if the number of services
+ * or of cabinets is outside the limits of a sheet.
+ *   answer  group, bound; the bound is 0 in a refusal */
+uint64_t gz_bound(size_t services, size_t cabinets, uint64_t answer[2]);
+
+#ifdef __cplusplus
+}
+#endif
+
+#endif

@@ -1,0 +1,29 @@
+//! A second reader, check and planner of planning sheets.
+//!
+//! It is written from the papers alone and is meant to be plainly right rather than fast: the
+//! planner tries every plan, and the splits weighed are counted by their definition.
+#![forbid(unsafe_code)]
+
+pub mod bound;
+pub mod build;
+pub mod check;
+pub mod hex;
+pub mod limits;
+pub mod measured;
+pub mod path;
+pub mod plan;
+pub mod random;
+pub mod read;
+pub mod refusal;
+pub mod sheet;
+pub mod splits;
+pub mod weigh;
+
+pub use bound::bound;
+pub use build::{Layout, build};
+pub use check::check;
+pub use plan::{Answer, plan};
+pub use read::read;
+pub use refusal::group;
+pub use sheet::{Cabinet, Sheet, Stream};
+pub use weigh::weigh;

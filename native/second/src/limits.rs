@@ -1,0 +1,21 @@
+//! The limits of a planning sheet and the sizes of its parts.
+
+/// The most services, r.
+pub const SERVICES: usize = 10;
+/// The most cabinets, s; the least is 1.
+pub const CABINETS: usize = 200;
+/// The most streams, q.
+pub const STREAMS: usize = 100;
+/// The largest demand, capacity or price.
+pub const AMOUNT: u16 = 10_000;
+/// The parent that the root names.
+pub const NO_PARENT: u16 = 65_535;
+
+/// Bytes of the header.
+pub const HEADER: usize = 16;
+/// Bytes of a service record.
+pub const SERVICE: usize = 2;
+/// Bytes of a cabinet record.
+pub const CABINET: usize = 14;
+/// Bytes of a stream record.
+pub const STREAM: usize = 6;

@@ -1,0 +1,28 @@
+//! Random layouts of a sheet that the reader accepts.
+
+use super::Random;
+use crate::build::{Layout, sizes};
+use crate::limits::HEADER;
+use crate::sheet::Sheet;
+
+/// Blocks in any order, with gaps and odd offsets; an empty block stands anywhere.
+pub fn layout(random: &mut Random, sheet: &Sheet) -> Layout {
+    let order = random.order(3);
+    let mut gap = || match random.below(4) {
+        0 => random.between(1, 5),
+        _ => 0,
+    };
+    let gaps = [gap(), gap(), gap(), gap()];
+    let mut layout = Layout::spread(sheet, [order[0], order[1], order[2]], gaps);
+    layout.gap = random.pick(&[0, 0, 255, 90]);
+    for (block, size) in sizes(sheet).into_iter().enumerate() {
+        if size == 0 {
+            layout.offsets[block] = match random.below(3) {
+                0 => layout.length,
+                1 => HEADER,
+                _ => random.between(HEADER, layout.length),
+            };
+        }
+    }
+    layout
+}

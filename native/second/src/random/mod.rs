@@ -1,0 +1,11 @@
+//! Random roads, damaged sheets and cases, the same for the same seed.
+
+pub mod amounts;
+pub mod case;
+pub mod damage;
+pub mod layout;
+pub mod road;
+pub mod source;
+
+pub use case::{Case, Lent, Size, case};
+pub use source::Random;

@@ -1,0 +1,78 @@
+//! The records of a sheet, by number.
+
+/// What an accepted sheet says: the demand of each service, each cabinet and each stream.
+#[derive(Clone, Debug, Default, PartialEq, Eq)]
+pub struct Sheet {
+    pub services: Vec<u16>,
+    pub cabinets: Vec<Cabinet>,
+    pub streams: Vec<Stream>,
+}
+
+/// A cabinet and the link to its parent.
+#[derive(Clone, Copy, Debug, Default, PartialEq, Eq)]
+pub struct Cabinet {
+    pub parent: u16,
+    pub capacity: u16,
+    pub price: u16,
+    pub up_capacity: u16,
+    pub up_price: u16,
+    pub down_capacity: u16,
+    pub down_price: u16,
+}
+
+/// A stream from one service to another.
+#[derive(Clone, Copy, Debug, Default, PartialEq, Eq)]
+pub struct Stream {
+    pub from: u16,
+    pub to: u16,
+    pub demand: u16,
+}
+
+impl Cabinet {
+    /// The cabinet with these words in the order of the sheet.
+    pub fn from_words(words: [u16; 7]) -> Cabinet {
+        let [
+            parent,
+            capacity,
+            price,
+            up_capacity,
+            up_price,
+            down_capacity,
+            down_price,
+        ] = words;
+        Cabinet {
+            parent,
+            capacity,
+            price,
+            up_capacity,
+            up_price,
+            down_capacity,
+            down_price,
+        }
+    }
+
+    /// The words of the record in the order of the sheet.
+    pub fn words(&self) -> [u16; 7] {
+        [
+            self.parent,
+            self.capacity,
+            self.price,
+            self.up_capacity,
+            self.up_price,
+            self.down_capacity,
+            self.down_price,
+        ]
+    }
+}
+
+impl Stream {
+    /// The stream with these words in the order of the sheet.
+    pub fn from_words([from, to, demand]: [u16; 3]) -> Stream {
+        Stream { from, to, demand }
+    }
+
+    /// The words of the record in the order of the sheet.
+    pub fn words(&self) -> [u16; 3] {
+        [self.from, self.to, self.demand]
+    }
+}

@@ -1,0 +1,55 @@
+//! The measured roads answer as the papers say.
+
+use second::build::tight;
+use second::measured::{m, m_records, roads, z};
+use second::{check, plan, read};
+
+#[test]
+fn reader_gives_the_records_of_m() {
+    assert_eq!(read(&m()), Ok(m_records()));
+    assert_eq!(tight(&m_records()), m());
+}
+
+#[test]
+fn checks_on_m() {
+    assert_eq!(check(&m(), &[0, 1]), Ok(15));
+    assert_eq!(check(&m(), &[1, 2]), Ok(15));
+    assert_eq!(check(&m(), &[1, 0]), Ok(18));
+    assert_eq!(check(&m(), &[0, 0]), Ok(20));
+    assert_eq!(check(&m(), &[1, 1]), Err(15));
+    assert_eq!(check(&m(), &[2, 0]), Err(16));
+    assert_eq!(check(&m(), &[3, 0]), Err(14));
+    assert_eq!(check(&m(), &[0]), Err(13));
+}
+
+#[test]
+fn planner_on_all_measured_roads() {
+    for road in roads() {
+        let answer = plan(&road.sheet, 10, 4096, 4096);
+        assert_eq!(answer.refusal, road.refusal, "{}", road.name);
+        assert_eq!(answer.cost, road.cost, "{}", road.name);
+        if let Some(count) = road.count {
+            assert_eq!(answer.count, count, "{}", road.name);
+        }
+        if let Some(plan) = answer.plan {
+            assert_eq!(check(&road.sheet, &plan), Ok(road.cost), "{}", road.name);
+        }
+    }
+}
+
+#[test]
+fn the_only_plan_of_m0_and_the_root_of_z() {
+    let m0 = &roads()[2].sheet;
+    assert_eq!(plan(m0, 2, 12, 12).plan, Some(vec![1, 2]));
+    let answer = plan(&tight(&z()), 3, 24, 24);
+    assert_eq!(answer.plan.map(|p| p[2]), Some(0));
+}
+
+#[test]
+fn thirty_bytes_need_one_entry() {
+    let least = &roads()[7].sheet;
+    assert_eq!(least.len(), 30);
+    assert_eq!(plan(least, 0, 1, 1).refusal, 0);
+    assert_eq!(plan(least, 0, 0, 1).refusal, 11);
+    assert_eq!(plan(least, 0, 1, 0).refusal, 11);
+}

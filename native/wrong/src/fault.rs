@@ -1,0 +1,150 @@
+//! The faults, one sentence each.
+
+macro_rules! faults {
+    ($($name:ident $sentence:literal)*) => {
+        /// What an implementation gets wrong.
+        #[derive(Clone, Copy, Debug, PartialEq, Eq)]
+        pub enum Fault {
+            $(#[doc = $sentence] $name,)*
+        }
+
+        impl Fault {
+            /// All faults.
+            pub const ALL: &'static [Fault] = &[$(Fault::$name,)*];
+
+            pub fn sentence(self) -> &'static str {
+                match self {
+                    $(Fault::$name => $sentence,)*
+                }
+            }
+        }
+    };
+}
+
+faults! {
+    // The reader.
+    ReadHighByteFirst "reader: the high byte of a word comes first"
+    ReadHeaderOf17 "reader: fewer than 17 bytes give 1"
+    ReadElevenServices "reader: 11 services are accepted"
+    ReadNoCabinets "reader: a sheet without cabinets is accepted"
+    ReadCabinets201 "reader: 201 cabinets are accepted"
+    ReadStreams101 "reader: 101 streams are accepted"
+    ReadEighthWord "reader: the eighth word is not looked at"
+    ReadEighthLowByte "reader: only the low byte of the eighth word is looked at"
+    ReadLengthFirst "reader: 3 is given before 2"
+    ReadLengthIn16Bits "reader: the length is compared in 16 bits"
+    ReadTrailingBytes "reader: bytes past the length word are accepted"
+    ReadHeaderShared "reader: a block may start in the header"
+    ReadOffset16 "reader: a block may not start at 16"
+    ReadOffsetWraps "reader: offset and size are added in 16 bits"
+    ReadEmptyAnywhere "reader: an empty block may stand anywhere"
+    ReadEmptyAtLength "reader: an empty block may not stand at the length"
+    ReadOddOffset "reader: odd offsets are refused"
+    ReadGaps "reader: gaps between blocks are refused"
+    ReadTouching "reader: touching blocks are refused"
+    ReadEmptyInside "reader: an empty block inside another is refused"
+    ReadForgottenPair "reader: services and streams may share bytes"
+    ReadShareLastByte "reader: blocks may share one byte"
+    ReadFirstRecord "reader: the first wrong record decides, not the lowest refusal"
+    ReadAmount9999 "reader: an amount of 10,000 is refused"
+    ReadAmount10001 "reader: an amount of 10,001 is accepted"
+    ReadStreamDemand "reader: a stream's demand is not looked at"
+    ReadDownPrice "reader: the last field of a cabinet is not looked at"
+    ReadRootLinkIsNine "reader: a link field of the root above 10,000 gives 9"
+    ReadRootParent "reader: the root's parent is not looked at"
+    ReadOwnParent "reader: a cabinet may be its own parent"
+    ReadParentBefore6 "reader: 7 is given before 6"
+    ReadEndR "reader: a stream may end at service r"
+    ReadSameEnds "reader: a stream may join a service to itself"
+    ReadFromOnly "reader: only the first end of a stream is looked at"
+    ReadRootLink "reader: the root's link fields are not looked at"
+    ReadRootLinkFirst "reader: 9 is given before 8"
+    ReadCountsKept "reader: the counts stay unwritten in a refusal"
+    ReadCountsGiven "reader: a refusal comes with the header's counts"
+    RecordPastLast "records: the number after the last gives a record"
+    RecordNumber16 "records: the number is taken in 16 bits"
+    RecordNumber32 "records: the number is taken in 32 bits"
+    RecordOfRefused "records: a refused sheet gives records"
+    RecordCleared "records: a record that isn't there is cleared"
+    RecordUpDown "records: up and down are swapped"
+    // The check.
+    CheckLongPlan "check: a plan of more than r places is accepted"
+    CheckShortPlan "check: a plan of fewer than r places is accepted"
+    CheckCabinetS "check: cabinet s is accepted"
+    CheckStreamAlone "check: each stream is tested alone"
+    CheckPairAsOne "check: several streams of a pair are taken as one"
+    CheckFill16 "check: a cabinet's demands are summed in 16 bits"
+    CheckLink16 "check: a link's demands are summed in 16 bits"
+    CheckCost32 "check: the cost is summed in 32 bits"
+    CheckAlike "check: both directions are priced alike"
+    CheckSwapped "check: up and down prices are swapped"
+    CheckCapacitySwapped "check: up and down capacities are swapped"
+    CheckTogether "check: both directions share a capacity"
+    CheckDownFree "check: down capacities are not looked at"
+    CheckThroughRoot "check: every path goes through the root"
+    CheckNoneOnZero "check: no service sits on a cabinet of capacity 0"
+    CheckFull "check: a cabinet may not be full"
+    CheckFullLink "check: a link may not be full"
+    CheckLinksFirst "check: 16 is given before 15"
+    CheckServiceAlone "check: each service is tested alone"
+    CheckStreamCostOnce "check: a stream pays for one link only"
+    CheckCostRefused "check: an overfull plan comes with its cost"
+    CheckGroup "check: 14 belongs to the lender"
+    CheckAnswerKept "check: the answer stays unwritten in a refusal"
+    // The planner.
+    PlanLargerLeftOut "planner: the part leaves out descendants with larger numbers"
+    PlanStreamAlone "planner: each stream is tested alone"
+    PlanPairAsOne "planner: several streams of a pair are taken as one"
+    PlanFill16 "planner: a cabinet's demands are summed in 16 bits"
+    PlanLink16 "planner: a link's demands are summed in 16 bits"
+    PlanCost32 "planner: costs are summed in 32 bits"
+    PlanAlike "planner: both directions are priced alike"
+    PlanCapacitySwapped "planner: up and down capacities are swapped"
+    PlanNoneOnInnerZero "planner: no service sits on an inner cabinet of capacity 0"
+    PlanRootLeaf "planner: a root with one child is taken as a leaf"
+    PlanExtraLeaf "planner: a service of demand 0 lands on an extra leaf"
+    PlanOuterStreams "planner: streams to services outside X load no link"
+    PlanFallingChildren "planner: children are joined in falling order"
+    PlanRisingSets "planner: X rises"
+    PlanWithoutEmpty "planner: the empty A is left out"
+    PlanWithoutFull "planner: A = X is left out"
+    PlanFirstFound "planner: the first cost found is kept"
+    PlanOnRoot "planner: all services go to the root"
+    PlanNever "planner: there is never a plan"
+    PlanMirrored "planner: the plan is written backwards"
+    PlanCountSums "planner: only splits with a sum are counted"
+    PlanCountBound "planner: the count is the bound"
+    PlanCountBest "planner: only splits that better the best are counted"
+    PlanNoCountIn12 "planner: 12 comes without its count"
+    PlanNoServices "planner: nothing is counted when there is no service"
+    PlanOldCosts "planner: the cost table is taken to be clear"
+    PlanOldChoices "planner: the choice table is taken to be clear"
+    PlanStride1024 "planner: rows are 1,024 entries apart"
+    PlanNotCleared "planner: the tables are not cleared"
+    PlanChoicesKept "planner: the choice table is not cleared"
+    PlanNotClearedIn12 "planner: the tables are not cleared in 12"
+    PlanAllCleared "planner: the whole of the tables is cleared"
+    PlanOutputCleared "planner: the whole of the output is written"
+    PlanOutputIn12 "planner: 12 clears the output"
+    PlanTouchedIn11 "planner: 11 clears the tables"
+    PlanTouchedInReader "planner: a refused sheet clears the output"
+    PlanTablesFirst "planner: 11 is given before 10"
+    PlanRoadFirst "planner: 12 is given before 10 and 11"
+    PlanExactTable "planner: a table of just enough entries is refused"
+    PlanExactOutput "planner: an output of just r places is refused"
+    PlanChoicesShort "planner: the choice table's length is not looked at"
+    PlanGroup12 "planner: 12 belongs to the lender"
+    PlanAnswerKept "planner: the answer stays unwritten in a refusal"
+    // The weighing and the bound.
+    WeighSumIsNone "weigh: a sum above 10^15 does not count"
+    WeighMostIsNone "weigh: 10^15 is 'none'"
+    WeighMoreIsCost "weigh: 10^15 + 1 is a cost"
+    WeighFlagOfSum "weigh: the flag asks for all three figures"
+    WeighTidied "weigh: 'none' is answered in one form"
+    WeighLinkFree "weigh: the link's figure may be 'none'"
+    BoundEleven "bound: 11 services have a bound"
+    BoundNoCabinet "bound: no cabinet has the bound 0"
+    BoundAllCabinets "bound: the root is counted too"
+    BoundIn16Bits "bound: the numbers are taken in 16 bits"
+    BoundGroup "bound: its refusal belongs to the lender"
+}

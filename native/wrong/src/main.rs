@@ -1,0 +1,22 @@
+//! Lists the faults, with the case that shows each.
+#![forbid(unsafe_code)]
+
+use std::process::ExitCode;
+use wrong::{Fault, first_difference};
+
+fn main() -> ExitCode {
+    let mut unseen = 0;
+    for &fault in Fault::ALL {
+        match first_difference(Some(fault), 20_000, 1) {
+            Some((number, line)) => {
+                println!("{}\n    case {number}: {line}", fault.sentence());
+            }
+            None => {
+                println!("{}\n    NOT SEEN", fault.sentence());
+                unseen += 1;
+            }
+        }
+    }
+    println!("{} faults, {unseen} not seen", Fault::ALL.len());
+    ExitCode::from(u8::from(unseen != 0))
+}

@@ -1,0 +1,167 @@
+//! The rows of the planner and their faults.
+
+use crate::loads::one_a_pair;
+use crate::{Fault, Faulty};
+use second::path::Paths;
+use second::splits::{count_over, part_before};
+use second::{Sheet, Stream};
+
+/// A figure that is no cost.
+pub const NONE: u64 = 1_000_000_000_000_001;
+
+/// Costs and choices, a row of sets for each cabinet, and the count.
+pub struct Rows {
+    pub costs: Vec<Vec<u64>>,
+    pub choices: Vec<Vec<usize>>,
+    pub count: u64,
+}
+
+/// The children of a cabinet in rising order.
+pub fn children(sheet: &Sheet, p: usize) -> Vec<usize> {
+    let all = 1..sheet.cabinets.len();
+    all.filter(|&c| usize::from(sheet.cabinets[c].parent) == p)
+        .collect()
+}
+
+impl Faulty {
+    /// Fills rows that hold something already.
+    pub fn fill(&self, sheet: &Sheet, rows: &mut Rows) {
+        rows.count = 0;
+        for p in (0..sheet.cabinets.len()).rev() {
+            let mut below = children(sheet, p);
+            self.own(sheet, p, below.is_empty(), &mut rows.costs[p]);
+            if self.has(Fault::PlanFallingChildren) {
+                below.reverse();
+            }
+            let leaf = p == 0 && below.len() == 1 && self.has(Fault::PlanRootLeaf);
+            if leaf || self.has(Fault::PlanOnRoot) {
+                below.clear();
+            }
+            for c in below {
+                self.join(sheet, p, c, rows);
+            }
+        }
+        self.recount(sheet, rows);
+    }
+
+    /// Counts made in another way than by joining.
+    fn recount(&self, sheet: &Sheet, rows: &mut Rows) {
+        let (r, s) = (sheet.services.len(), sheet.cabinets.len());
+        match self.0 {
+            Some(Fault::PlanLargerLeftOut) => {
+                let smaller = |c: usize| {
+                    let part = part_before(sheet, c).into_iter();
+                    part.filter(|&v| v < c).collect()
+                };
+                rows.count = count_over(sheet, &Paths::new(sheet), smaller);
+            }
+            Some(Fault::PlanCountBound) => rows.count = (s as u64 - 1) * 3_u64.pow(r as u32),
+            Some(Fault::PlanNoServices) if r == 0 => rows.count = 0,
+            _ => {}
+        }
+    }
+
+    /// What the cabinet charges for each set that it holds alone.
+    fn own(&self, sheet: &Sheet, p: usize, leaf: bool, row: &mut [u64]) {
+        let cabinet = &sheet.cabinets[p];
+        let capacity = u64::from(cabinet.capacity);
+        for (set, figure) in row.iter_mut().enumerate() {
+            let services = sheet.services.iter().enumerate();
+            let inside = services.filter(|(i, _)| set >> i & 1 == 1);
+            let demand: u64 = inside.map(|(_, &d)| u64::from(d)).sum();
+            let fits = match self.0 {
+                Some(Fault::PlanFill16) => demand % 65_536 <= capacity,
+                Some(Fault::PlanNoneOnInnerZero) if capacity == 0 && !leaf => set == 0,
+                _ => demand <= capacity,
+            };
+            if fits {
+                *figure = demand * u64::from(cabinet.price);
+            } else if !self.has(Fault::PlanOldCosts) {
+                *figure = NONE;
+            }
+        }
+    }
+
+    /// What the link of c charges for a set below it, of all services or of those in `whole`.
+    fn link(&self, sheet: &Sheet, c: usize, set: usize, whole: usize) -> u64 {
+        let streams = match self.has(Fault::PlanPairAsOne) {
+            true => one_a_pair(&sheet.streams),
+            false => sheet.streams.clone(),
+        };
+        let all = !self.has(Fault::PlanOuterStreams);
+        let holds = |set: usize, end: u16| set >> end & 1 == 1;
+        let counts = |t: &Stream| all || holds(whole, t.from) && holds(whole, t.to);
+        let crossing = |up: bool| -> Vec<u64> {
+            let crosses =
+                |t: &&Stream| counts(t) && holds(set, t.from) == up && holds(set, t.to) != up;
+            let streams = streams.iter().filter(crosses);
+            streams.map(|t| u64::from(t.demand)).collect()
+        };
+        let cabinet = &sheet.cabinets[c];
+        let (up, down) = (crossing(true), crossing(false));
+        let (mut rise, mut fall) = (cabinet.up_capacity, cabinet.down_capacity);
+        if self.has(Fault::PlanCapacitySwapped) {
+            (rise, fall) = (fall, rise);
+        }
+        if !self.carried(&up, rise) || !self.carried(&down, fall) {
+            return NONE;
+        }
+        let down_price = match self.has(Fault::PlanAlike) {
+            true => cabinet.up_price,
+            false => cabinet.down_price,
+        };
+        up.iter().sum::<u64>() * u64::from(cabinet.up_price)
+            + down.iter().sum::<u64>() * u64::from(down_price)
+    }
+
+    /// The demands fit in the capacity.
+    fn carried(&self, demands: &[u64], capacity: u16) -> bool {
+        let capacity = u64::from(capacity);
+        let sum: u64 = demands.iter().sum();
+        match self.0 {
+            Some(Fault::PlanStreamAlone) => demands.iter().all(|&d| d <= capacity),
+            Some(Fault::PlanLink16) => sum % 65_536 <= capacity,
+            _ => sum <= capacity,
+        }
+    }
+
+    /// Weighs all splits between p with what was joined to it and c.
+    fn join(&self, sheet: &Sheet, p: usize, c: usize, rows: &mut Rows) {
+        let n = 1 << sheet.services.len();
+        let link: Vec<u64> = (0..n).map(|set| self.link(sheet, c, set, n - 1)).collect();
+        let sets: Vec<usize> = match self.has(Fault::PlanRisingSets) {
+            true => (0..n).collect(),
+            false => (0..n).rev().collect(),
+        };
+        for set in sets {
+            let (mut best, mut choice) = (NONE, 0);
+            for a in (0..=set).filter(|a| a & !set == 0) {
+                let left_out = a == 0 && self.has(Fault::PlanWithoutEmpty)
+                    || a == set && self.has(Fault::PlanWithoutFull);
+                if left_out {
+                    continue;
+                }
+                let (placed, rest) = (rows.costs[p][a], rows.costs[c][set & !a]);
+                let charge = match self.has(Fault::PlanOuterStreams) {
+                    true => self.link(sheet, c, set & !a, set),
+                    false => link[set & !a],
+                };
+                let whole = placed < NONE && rest < NONE && charge < NONE;
+                let sum = if whole { placed + rest + charge } else { NONE };
+                let better = sum < best && !(self.has(Fault::PlanFirstFound) && best < NONE);
+                rows.count += u64::from(match self.0 {
+                    Some(Fault::PlanCountSums) => whole,
+                    Some(Fault::PlanCountBest) => better,
+                    _ => placed < NONE,
+                });
+                if better {
+                    (best, choice) = (sum, a);
+                }
+            }
+            rows.costs[p][set] = best;
+            if choice != 0 || !self.has(Fault::PlanOldChoices) {
+                rows.choices[c][set] = choice;
+            }
+        }
+    }
+}
