@@ -1,6 +1,7 @@
 -- Laws of sums over the numbers below n and over lists.
 use Prim.Native.Nat.{ℕ, zero, suc, _+_, _*_, _≤_, _<_}
 use native.Mathlib.Nat.{add-mul, zero-mul, zero-add, add-zero}
+use native.Mathlib.Numerals.{add-one}
 use native.Mathlib.Decide.{le-ind}
 use native.Mathlib.Omega.{arith}
 use mathlib.Core.Path.{_≡_, refl, sym, ap, ap₂, _∙_}
@@ -132,3 +133,17 @@ le-sum (suc n) f d h = go (eqb d n) refl (le-sum n f d)
     go : (t : Bool) → eqb d n ≡ t → (d < n → f d ≤ sum-below n f) → f d ≤ sum-below n f + f n
     go true e ih = omega (arith, ap f (eqb-true d n e))
     go false e ih = let q : (d ≡ n → ⊥) = eqb-false d n e in omega (arith, ih (omega arith))
+
+-- a sum that a loop has begun, and then one more number
+pub sum-start : (f : ℕ → ℕ) → 0 ≡ sum-below 0 f
+unfolding sum-below
+sum-start f = refl
+
+pub sum-next : (n : ℕ) (f : ℕ → ℕ) → sum-below (n + 1) f ≡ sum-below n f + f n
+unfolding sum-below
+sum-next n f = rw add-one
+
+-- the first places of a sum sum to at most the whole
+pub sum-part : (n m : ℕ) (f : ℕ → ℕ) → n ≤ m → sum-below n f ≤ sum-below m f
+unfolding sum-below
+sum-part n m f = le-ind (λ (m : ℕ). sum-below n f ≤ sum-below m f) (omega arith) (λ m l ih. omega (arith, ih)) m

@@ -7,7 +7,7 @@ use mathlib.Core.Bool.{Bool, true, false, _&&_, _||_, or-true}
 use lib.Dec.{eqb}
 use borrow.Author.Tests.{eqb-true, eqb-false}
 use Rattle.finite.specs.Below.{all-below, any-below}
-use Rattle.finite.proofs.Booleans.{clash, both, both-l, both-r, neither, neither-l, neither-r}
+use Rattle.finite.proofs.Booleans.{clash, both, both-l, both-r, neither, neither-l, neither-r, is-false}
 
 pub all-in : (n : ℕ) (p : ℕ → Bool) → ((d : ℕ) → d < n → p d ≡ true) → all-below n p ≡ true
 unfolding all-below
@@ -73,3 +73,20 @@ any-next n p h e = rw add-one (neither (any-below n p) (p n) h e)
 -- a search that has passed all n numbers
 pub any-end : (n i : ℕ) (p : ℕ → Bool) → i ≤ n → n ≤ i → any-below i p ≡ false → false ≡ any-below n p
 any-end n i p h k e = sym (ap (λ (m : ℕ). any-below m p) (let q : n ≡ i = omega arith in q) ∙ e)
+
+-- a test that has held of n numbers, and then of one more
+pub all-start : (p : ℕ → Bool) → all-below 0 p ≡ true
+unfolding all-below
+all-start p = refl
+
+pub all-next : (n : ℕ) (p : ℕ → Bool) → all-below n p ≡ true → p n ≡ true → all-below (n + 1) p ≡ true
+unfolding all-below
+all-next n p h e = rw add-one (both (all-below n p) (p n) h e)
+
+-- a test that has held of all n numbers
+pub all-end : (n i : ℕ) (p : ℕ → Bool) → i ≤ n → n ≤ i → all-below i p ≡ true → true ≡ all-below n p
+all-end n i p h k e = sym (ap (λ (m : ℕ). all-below m p) (let q : n ≡ i = omega arith in q) ∙ e)
+
+-- a test that fails of one of the numbers
+pub all-stop : (n : ℕ) (p : ℕ → Bool) (d : ℕ) → d < n → p d ≡ false → false ≡ all-below n p
+all-stop n p d k e = sym (is-false (all-below n p) (λ h. clash (sym (all-at n p h d k) ∙ e)))

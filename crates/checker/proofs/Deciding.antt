@@ -1,0 +1,66 @@
+-- The check's answer, when the tests are made in their order: a test that fails is passed, and the first that holds decides.
+use Prim.Native.Nat.{ℕ}
+use mathlib.Core.Path.{_≡_, refl, sym, ap, ap₂, _∙_}
+use mathlib.Core.Bool.{Bool, true, false, not, cond}
+use mathlib.Core.List.{List}
+use lib.Dec.{ltb}
+use lib.ListN.{length}
+use borrow.Author.Tests.{eq-eqb, ne-eqb}
+use Rattle.finite.specs.Below.{all-below}
+use Rattle.sheet.specs.Refusals.{lowest, refusal}
+use Rattle.sheet.specs.Reading.{reading}
+use Rattle.sheet.specs.Instance.{Instance, instance}
+use Rattle.sheet.specs.declared.Sheet.{Sheet}
+use Rattle.sheet.specs.declared.Refusal.{Refusal}
+use Rattle.sheet.specs.declared.Refusal.the-variants.{PlanWriter}
+use Rattle.sheet.specs.declared.Reading.{Reading}
+use Rattle.sheet.specs.declared.Reading.the-variants as readings
+use Rattle.embedding.specs.Plan.{in-range, cabinets-keep, links-keep, plan-cost}
+use Rattle.checker.specs.Check.{place, rules, answered, plan-checked, checked-after, checked}
+use Rattle.checker.specs.Records.{Reads}
+use Rattle.checker.specs.Walk.{walked}
+use Rattle.checker.specs.declared.Checked.the-variants.{Accepted, Refused}
+
+-- the test of the plan's cabinet numbers, by the counts that the code has
+pub range-is : (I : Instance) (plan : List ℕ) (s : ℕ) → length plan ≡ I .r → s ≡ I .s
+    → all-below (length plan) (λ i. ltb (place plan i) s) ≡ in-range I (place plan)
+unfolding in-range
+range-is I plan s e f = ap₂ (λ (n s : ℕ). all-below n (λ i. ltb (place plan i) s)) e f
+
+-- the last test
+last : (t : Bool) (cost : ℕ) → answered (cond (not t) 16 0) cost ≡ cond t (Accepted cost) (Refused (refusal 16))
+unfolding answered
+last true cost = refl
+last false cost = refl
+
+module _ (bytes plan : List ℕ) where
+  -- a refusal of the reader
+  pub handed-on : (f : Refusal) → reading bytes ≡ readings.Refused f → Refused f ≡ checked bytes plan
+  unfolding checked checked-after
+  handed-on f e = sym (ap (λ (r : Reading). checked-after r (instance bytes) plan) e)
+
+  module _ (h : Sheet) (reads : Reads bytes h) where
+    -- a sheet that the reader accepts
+    pub on-plan : checked bytes plan ≡ plan-checked (instance bytes) plan
+    unfolding checked checked-after
+    on-plan = ap (λ (r : Reading). checked-after r (instance bytes) plan) reads
+
+    pub wrong-length : (length plan ≡ instance bytes .r → ⊥) → Refused (PlanWriter 13) ≡ checked bytes plan
+    unfolding plan-checked rules lowest answered refusal
+    wrong-length e = sym (on-plan ∙ simp (ne-eqb (length plan) (instance bytes .r) e))
+
+    module _ (places : length plan ≡ instance bytes .r) where
+      pub out-of-range : in-range (instance bytes) (place plan) ≡ false → Refused (PlanWriter 14) ≡ checked bytes plan
+      unfolding plan-checked rules lowest answered refusal
+      out-of-range e = sym (on-plan ∙ simp (eq-eqb (length plan) (instance bytes .r) places, e))
+
+      module _ (range : in-range (instance bytes) (place plan) ≡ true) where
+        pub cabinet-overfull : cabinets-keep (instance bytes) (place plan) ≡ false → Refused (PlanWriter 15) ≡ checked bytes plan
+        unfolding plan-checked rules lowest answered refusal
+        cabinet-overfull e = sym (on-plan ∙ simp (eq-eqb (length plan) (instance bytes .r) places, range, e))
+
+        -- the walk decides what is left
+        pub by-walk : cabinets-keep (instance bytes) (place plan) ≡ true → walked (instance bytes) (place plan) ≡ checked bytes plan
+        unfolding plan-checked rules lowest walked
+        by-walk e =
+            sym (on-plan ∙ simp (eq-eqb (length plan) (instance bytes .r) places, range, e) (last (links-keep (instance bytes) (place plan)) (plan-cost (instance bytes) (place plan))))

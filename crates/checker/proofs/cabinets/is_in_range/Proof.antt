@@ -1,0 +1,74 @@
+-- `is_in_range` meets its contract. The invariant: the places passed are all in range.
+use Prim.Native.Nat.{_-_, _≤_, _<_}
+use mathlib.Core.Path.{_≡_}
+use mathlib.Core.Bool.{true}
+use native.Mathlib.Omega.{arith}
+use lib.Dec.{ltb}
+use lib.ListN.{length}
+use borrow.Author.Needs.{needs}
+use borrow.Author.Tests.{lt-ltb, le-ltb}
+use Rattle.finite.specs.Below.{all-below}
+use Rattle.finite.proofs.Tests.{all-start, all-next, all-end, all-stop}
+use Rattle.checker.specs.Check.{place}
+use Rattle.checker.proofs.cabinets.is_in_range.Statement.{statement}
+use Rattle.checker.proofs.cabinets.is_in_range.Tie as tie
+
+abbrev Inv-loop : tie.InvT-loop
+Inv-loop plan cabinets i₀ i = (i ≤ length plan) × (all-below i (λ k. ltb (place plan k) cabinets) ≡ true)
+
+abbrev μ-loop : tie.MeasureT-loop
+μ-loop plan cabinets i₀ i = length plan - i
+
+loop-holds : tie.Need-loop-holds Inv-loop μ-loop
+loop-holds c = (search needs, all-start _)
+
+mul-wide : tie.Need-mul-wide Inv-loop μ-loop
+mul-wide c = search needs
+
+shared-slice-read-wide : tie.Need-shared-slice-read-wide Inv-loop μ-loop
+shared-slice-read-wide c = search needs
+
+wide-requires : tie.Need-wide-requires Inv-loop μ-loop
+wide-requires c κs = search needs
+
+returns : tie.Need-returns Inv-loop μ-loop
+returns c =
+    let a = c .before .before .before .before .before .before .args in
+    let l = c .before .before .before .before .loop in
+    let f : a .cabinets ≤ place (a .plan .now) (l .i) = omega (arith, c .before .wide .ensures) in
+    all-stop (length (a .plan .now)) (λ k. ltb (place (a .plan .now) k) (a .cabinets)) (l .i) (c .before .before .before .loop-test .taken) (le-ltb _ _ f)
+
+add-i : tie.Need-add-i Inv-loop μ-loop
+add-i c = search needs
+
+loop-less : tie.Need-loop-less Inv-loop μ-loop
+loop-less c = search needs
+
+loop-again : tie.Need-loop-again Inv-loop μ-loop
+loop-again c =
+    let a = c .before .before .before .before .before .before .args in
+    let l = c .before .before .before .before .loop in
+    let f : place (a .plan .now) (l .i) < a .cabinets = omega (arith, c .before .wide .ensures) in
+    (search needs, all-next (l .i) (λ k. ltb (place (a .plan .now) k) (a .cabinets)) (l .inv .1) (lt-ltb _ _ f))
+
+returns-2 : tie.Need-returns-2 Inv-loop μ-loop
+returns-2 c =
+    let a = c .before .before .before .args in
+    let l = c .before .loop in
+    all-end (length (a .plan .now)) (l .i) (λ k. ltb (place (a .plan .now) k) (a .cabinets)) (l .inv .0) (c .loop-test .left) (l .inv .1)
+
+pub is-in-range-spec : {M : Type 1} → statement M
+is-in-range-spec =
+    tie.close
+    (tie.spec
+    Inv-loop
+    μ-loop
+    loop-holds
+    mul-wide
+    shared-slice-read-wide
+    wide-requires
+    returns
+    add-i
+    loop-less
+    loop-again
+    returns-2)

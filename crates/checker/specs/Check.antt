@@ -1,0 +1,45 @@
+-- What the check answers for any bytes and any plan: 01, "A valid plan and its cost" and refusals 13 to 16.
+use Prim.Native.Nat.{ℕ, zero, suc}
+use mathlib.Core.Bool.{not}
+use mathlib.Core.List.{List, [], _∷_}
+use lib.ListN.{length, getD}
+use lib.Dec.{eqb}
+use Rattle.sheet.specs.Refusals.{Rule, lowest, refusal}
+use Rattle.sheet.specs.Reading.{reading}
+use Rattle.sheet.specs.Instance.{Instance, instance}
+use Rattle.sheet.specs.declared.Reading.{Reading}
+use Rattle.sheet.specs.declared.Reading.the-variants as readings
+use Rattle.embedding.specs.Plan.{in-range, cabinets-keep, links-keep, plan-cost}
+use Rattle.checker.specs.declared.Checked.{Checked}
+use Rattle.checker.specs.declared.Checked.the-variants.{Accepted, Refused}
+
+-- the cabinet that a plan gives service i
+abbrev pub place : List ℕ → ℕ → ℕ
+place plan i = getD plan i 0
+
+-- the refusals of a plan: it hasn't exactly r places; a cabinet number is not below s; a cabinet is overfull; a link direction is overfull
+unfoldable pub rules : Instance → List ℕ → List Rule
+rules I plan =
+    record { number = 13; applies = not (eqb (length plan) (I .r)) }
+    ∷ record { number = 14; applies = not (in-range I (place plan)) }
+    ∷ record { number = 15; applies = not (cabinets-keep I (place plan)) }
+    ∷ record { number = 16; applies = not (links-keep I (place plan)) }
+    ∷ []
+
+-- the cost where no refusal applies, which 0 stands for, else that refusal
+unfoldable pub answered : ℕ → ℕ → Checked
+answered zero cost = Accepted cost
+answered (suc n) cost = Refused (refusal (suc n))
+
+-- the answer for a plan on a sheet that the reader accepts
+unfoldable pub plan-checked : Instance → List ℕ → Checked
+plan-checked I plan = answered (lowest (rules I plan)) (plan-cost I (place plan))
+
+-- a refusal of the reader is handed on
+unfoldable pub checked-after : Reading → Instance → List ℕ → Checked
+checked-after (readings.Accepted h) I plan = plan-checked I plan
+checked-after (readings.Refused f) I plan = Refused f
+
+-- what the check answers
+unfoldable pub checked : List ℕ → List ℕ → Checked
+checked bytes plan = checked-after (reading bytes) (instance bytes) plan

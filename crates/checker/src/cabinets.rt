@@ -1,0 +1,88 @@
+// What a plan puts on cabinets: refusals 14 and 15, and the cabinets' part of the cost.
+ghost use mathlib.Core.Path.{_≡_};
+ghost use mathlib.Core.Bool.{Bool};
+ghost use lib.Dec.{eqb, ltb};
+ghost use lib.ListN.{length};
+ghost use Rattle.finite.specs.Below.{only, sum-below, all-below};
+ghost use Rattle.sheet.specs.Instance.{Instance, instance};
+ghost use Rattle.embedding.specs.Plan.{cabinets-keep, cabinets-cost};
+ghost use Rattle.checker.specs.Check.{place};
+ghost use Rattle.checker.specs.Records.{Placed};
+use crate::records::cabinet;
+use crate::records::demand;
+use sheet::Sheet;
+
+pub fn wide(place: u16) -> usize
+    ensures { λ c. ⌜ c ≡ place ⌝ }
+{
+    place as usize
+}
+
+// n where the test passes, else 0.
+pub fn counted(test: bool, n: u64) -> u64
+    ensures { λ m. ⌜ m ≡ only test n ⌝ }
+{
+    if test { n } else { 0 }
+}
+
+// Every cabinet number of the plan is below the number of cabinets.
+pub fn is_in_range(plan: &[u16], cabinets: usize) -> bool
+    ensures { λ b. ⌜ b ≡ all-below (length (now (plan .entry))) (λ i. ltb (place (now (plan .entry)) i) cabinets) ⌝ }
+{
+    let mut i = 0;
+    while i < plan.len() {
+        if cabinets <= wide(plan[i]) {
+            return false;
+        }
+        i += 1;
+    }
+    true
+}
+
+// The demands that the plan puts on cabinet c.
+fn placed_demand(sheet: Sheet, bytes: &[u8], plan: &[u16], c: usize) -> u64
+    requires { ⌜ Placed (now bytes) sheet (now plan) ⌝ }
+    ensures { λ n. ⌜ n ≡ sum-below (instance (now (bytes .entry)) .r) (λ i. only (eqb (place (now (plan .entry)) i) c) (instance (now (bytes .entry)) .demand i)) ⌝ }
+{
+    let services = sheet.services();
+    let mut sum = 0;
+    let mut i = 0;
+    while i < services {
+        sum += counted(wide(plan[i]) == c, demand(sheet, bytes, i));
+        i += 1;
+    }
+    sum
+}
+
+// No cabinet is overfull.
+pub fn are_cabinets_kept(sheet: Sheet, bytes: &[u8], plan: &[u16]) -> bool
+    requires { ⌜ Placed (now bytes) sheet (now plan) ⌝ }
+    ensures { λ b. ⌜ b ≡ cabinets-keep (instance (now (bytes .entry))) (place (now (plan .entry))) ⌝ }
+{
+    let cabinets = sheet.cabinets();
+    let mut c = 0;
+    while c < cabinets {
+        let k = cabinet(sheet, bytes, c);
+        if k.capacity < placed_demand(sheet, bytes, plan, c) {
+            return false;
+        }
+        c += 1;
+    }
+    true
+}
+
+// What the cabinets charge for the services: each one's demand times the price of its cabinet.
+pub fn cabinets_cost(sheet: Sheet, bytes: &[u8], plan: &[u16]) -> u64
+    requires { ⌜ Placed (now bytes) sheet (now plan) ⌝ }
+    ensures { λ n. ⌜ n ≡ cabinets-cost (instance (now (bytes .entry))) (place (now (plan .entry))) ⌝ }
+{
+    let services = sheet.services();
+    let mut cost = 0;
+    let mut i = 0;
+    while i < services {
+        let k = cabinet(sheet, bytes, wide(plan[i]));
+        cost += demand(sheet, bytes, i) * k.price;
+        i += 1;
+    }
+    cost
+}

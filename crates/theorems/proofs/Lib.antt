@@ -1,0 +1,3 @@
+-- The page to open first is Demands; Cases has the worked cases.
+pub mod Demands
+pub mod Cases

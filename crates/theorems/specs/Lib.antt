@@ -1,0 +1,2 @@
+-- The worked cases as one table.
+pub mod Cases
