@@ -1,3 +1,4 @@
 // The C entry points: thin functions over the library's calls. native/include/gazrieksne.h documents them.
+mod checks; // checks.rt: gz_check
 mod reads; // reads.rt: gz_read, gz_service, gz_cabinet, gz_stream
 mod weighs; // weighs.rt: gz_weigh

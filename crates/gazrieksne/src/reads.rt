@@ -12,7 +12,7 @@ use sheet::Sheet;
 use sheet::Stream;
 use sheet::StreamRecord;
 
-fn wide(n: u16) -> u64
+pub fn wide(n: u16) -> u64
     ensures { λ r. ⌜ r ≡ n ⌝ }
 {
     n as u64

@@ -1,0 +1,56 @@
+-- The cases of the bound.
+use Prim.Native.Nat.{ℕ, _-_, _*_, _^_, _≤_, _<_}
+use native.Mathlib.Nat.{mul-le-mul, pow-le-pow-right}
+use native.Mathlib.Omega.{arith}
+use mathlib.Core.Path.{_≡_, refl, sym, ap, _∙_}
+use mathlib.Core.Bool.{Bool, true, false, _&&_}
+use lib.Dec.{leb}
+use borrow.Author.Tests.{le-leb, lt-leb, leb-true}
+use Rattle.subsets.specs.declared.Power.{Power}
+use Rattle.subsets.specs.declared.Power.the-variants.{Value, Outside}
+use Rattle.subsets.specs.Powers.{power-of-three}
+use Rattle.sheet.specs.Refusals.{refusal}
+use Rattle.sheet.specs.declared.Refusal.the-variants.{SheetWriter}
+use Rattle.planner.specs.declared.SplitBound.the-variants.{AtMost, Refused}
+use Rattle.planner.specs.Bounds.{split-bound}
+
+module _ (r s : ℕ) where
+  refused : leb r 10 && (leb 1 s && leb s 200) ≡ false → Refused (SheetWriter 2) ≡ split-bound r s
+  unfolding split-bound refusal
+  refused e = simp e
+
+  second : (b : Bool) → b ≡ false → (a : Bool) → a && b ≡ false
+  second b e true = e
+  second b e false = refl
+
+  pub no-cabinets : s < 1 → Refused (SheetWriter 2) ≡ split-bound r s
+  no-cabinets h = refused (second (leb 1 s && leb s 200) (rw (lt-leb 1 s h)) (leb r 10))
+
+  pub many-cabinets : 200 < s → Refused (SheetWriter 2) ≡ split-bound r s
+  many-cabinets h = refused (second (leb 1 s && leb s 200) (second (leb s 200) (lt-leb s 200 h) (leb 1 s)) (leb r 10))
+
+  -- the power that the table has
+  pub power-value : (p : Power) (n : ℕ) → p ≡ power-of-three r → p ≡ Value n → (r ≤ 10) × (n ≡ 3 ^ r)
+  unfolding power-of-three
+  power-value p n e f = go (leb r 10) refl
+    where
+      go : (t : Bool) → leb r 10 ≡ t → (r ≤ 10) × (n ≡ 3 ^ r)
+      go true q = let z : p ≡ Value (3 ^ r) = e ∙ rw q in (leb-true r 10 q, (cc))
+      go false q = absurd (let z : p ≡ Outside = e ∙ rw q in let y : _≡_ {A = ℕ} 0 1 = cc in omega arith)
+
+  pub many-services : (p : Power) → p ≡ power-of-three r → p ≡ Outside → Refused (SheetWriter 2) ≡ split-bound r s
+  unfolding power-of-three
+  many-services p e f = go (leb r 10) refl
+    where
+      go : (t : Bool) → leb r 10 ≡ t → Refused (SheetWriter 2) ≡ split-bound r s
+      go true q = absurd (let z : p ≡ Value (3 ^ r) = e ∙ rw q in let y : _≡_ {A = ℕ} 0 1 = cc in omega arith)
+      go false q = refused (rw q)
+
+  pub bound-fits : r ≤ 10 → s ≤ 200 → (s - 1) * 3 ^ r ≤ 200 * 59049
+  bound-fits h k =
+      let power : 3 ^ r ≤ 59049 = pow-le-pow-right {n = 3} (omega arith) h in
+      mul-le-mul (let z : s - 1 ≤ 200 = omega arith in z) power
+
+  pub within : r ≤ 10 → 1 ≤ s → s ≤ 200 → AtMost ((s - 1) * 3 ^ r) ≡ split-bound r s
+  unfolding split-bound
+  within h k l = simp (le-leb r 10 h, le-leb 1 s k, le-leb s 200 l)

@@ -1,0 +1,105 @@
+-- The lender's refusals, and what the whole of the memory lent holds once its first part was used.
+use Prim.Native.Nat.{ℕ, zero, suc, _*_, _^_, _≤_, _<_}
+use native.Mathlib.Omega.{arith}
+use mathlib.Core.Path.{_≡_, refl, sym, ap, ap₂, _∙_, subst}
+use mathlib.Core.Bool.{Bool, true, false, _&&_, _||_, cond}
+use mathlib.Core.List.{List, [], _∷_, _++_}
+use lib.Dec.{ltb, leb}
+use lib.ListN.{length, getD, take, drop, replicate, take-append-drop, List·getD-append}
+use lib.Seq.{take-at}
+use borrow.Author.Tests.{lt-ltb, le-ltb, leb-true, ne-eqb}
+use Rattle.finite.proofs.Booleans.{both-l, both-r, either-r, neither}
+use Rattle.subsets.specs.Costs.{Cost, none, some}
+use Rattle.sheet.specs.Instance.{Instance, WellFormed}
+use Rattle.sheet.specs.Layout.{header}
+use Rattle.sheet.specs.Refusals.{Rule, lowest, refusal, number-of}
+use Rattle.sheet.specs.Reading as readings
+use Rattle.sheet.specs.Reading.{answered, reading}
+use Rattle.sheet.specs.declared.Sheet.{Sheet}
+use Rattle.sheet.specs.declared.Refusal.{Refusal}
+use Rattle.sheet.specs.declared.Reading.the-variants as readers
+use Rattle.sheet.proofs.Groups.{number-refusal}
+use Rattle.sheet.specs.declared.Refusal.the-variants.{Lender}
+use Rattle.embedding.specs.Plan as plans
+use Rattle.embedding.specs.Plan.{valid, plan-cost, cheapest}
+use Rattle.embedding.specs.Splits.{weighed}
+use Rattle.embedding.proofs.Costs.{provided-some}
+use Rattle.embedding.proofs.Services.{worth-ext}
+use Rattle.planner.specs.declared.Planned.{Planned}
+use Rattle.planner.specs.declared.Planned.the-variants.{Plan, Refused}
+use Rattle.planner.specs.Answers.{entries, rules, solved, lent}
+use Rattle.planner.specs.Lent.{used, table-after, plan-in, OutputAfter}
+
+module _ (I : Instance) (output costs choices : ℕ) where
+  pub short-output : output < I .r → Refused (Lender 10) 0 ≡ lent (lowest (rules I output costs choices)) I
+  unfolding lowest refusal
+  short-output h = simp (lt-ltb output (I .r) h)
+
+  short-table : I .r ≤ output → ltb costs (entries I) || ltb choices (entries I) ≡ true → Refused (Lender 11) 0 ≡ lent (lowest (rules I output costs choices)) I
+  unfolding lowest refusal
+  short-table h e = simp (le-ltb output (I .r) h, e)
+
+  pub short-costs : I .r ≤ output → costs < entries I → Refused (Lender 11) 0 ≡ lent (lowest (rules I output costs choices)) I
+  short-costs h l = short-table h (rw (lt-ltb costs (entries I) l))
+
+  pub short-choices : I .r ≤ output → choices < entries I → Refused (Lender 11) 0 ≡ lent (lowest (rules I output costs choices)) I
+  short-choices h l = short-table h (either-r (ltb costs (entries I)) _ (lt-ltb choices (entries I) l))
+
+  pub enough : I .r ≤ output → entries I ≤ costs → entries I ≤ choices → solved (cheapest I) (weighed I) ≡ lent (lowest (rules I output costs choices)) I
+  unfolding lowest
+  enough h k l = simp (le-ltb output (I .r) h, neither (ltb costs (entries I)) _ (le-ltb costs (entries I) k) (le-ltb choices (entries I) l))
+
+-- with memory enough the tables are used
+solved-used : (f : Cost) (n : ℕ) → used (solved f n) ≡ true
+unfolding refusal
+solved-used none n = refl
+solved-used (some k) n = refl
+
+-- a table whose first part was cleared
+pub table-lifted : (I : Instance) (a : Planned) (f : Cost) (n : ℕ) (table part : List ℕ) → a ≡ solved f n → part ≡ replicate (entries I) 0 → part ++ drop (entries I) table ≡ table-after I a table
+table-lifted I a f n table part e p =
+    rw (ap used e ∙ solved-used f n) (ap (λ (l : List ℕ). l ++ drop (entries I) table) p)
+
+-- the output whose first part was written
+pub output-lifted : (I : Instance) → WellFormed I → (a : Planned) (output part : List ℕ) → length part ≡ I .r → OutputAfter I a (take (I .r) output) part → OutputAfter I a output (part ++ drop (I .r) output)
+unfolding plans.worth
+output-lifted I W (Plan k n) output part e (v, c, s) =
+    let π : ℕ → ℕ = plan-in (part ++ drop (I .r) output) in
+    let good = provided-some (valid I π) (plan-cost I π) k .0
+    (worth-ext I W π (plan-in part) (λ i l. List·getD-append part (drop (I .r) output) 0 i (omega arith)) ∙ provided-some (valid I (plan-in part)) (plan-cost I (plan-in part)) k .1 (v, c)) in
+    (good .0, good .1, ap (λ (l : List ℕ). l ++ drop (I .r) output) (sym (take-at part (drop (I .r) output) (I .r) e)))
+output-lifted I W (Refused f n) output part e s = ap (λ (l : List ℕ). l ++ drop (I .r) output) s ∙ take-append-drop (I .r) output
+
+-- ---- the reader's refusals
+
+cond-le : (b : Bool) (m n k : ℕ) → m ≤ k → n ≤ k → cond b m n ≤ k
+cond-le true m n k h l = h
+cond-le false m n k h l = l
+
+-- of rules whose numbers are at most 9, the lowest is
+fits : List Rule → Bool
+fits [] = true
+fits (x ∷ xs) = leb (x .number) 9 && fits xs
+
+lowest-fits : (xs : List Rule) → fits xs ≡ true → lowest xs ≤ 9
+unfolding lowest fits
+lowest-fits [] e = omega arith
+lowest-fits (x ∷ xs) e =
+    cond-le (x .applies) (x .number) (lowest xs) 9 (leb-true (x .number) 9 (both-l (leb (x .number) 9) (fits xs) e)) (lowest-fits xs (both-r (leb (x .number) 9) (fits xs) e))
+
+-- the reader's are
+lowest-le : (bytes : List ℕ) → lowest (readings.rules bytes) ≤ 9
+unfolding readings.rules fits
+lowest-le bytes = lowest-fits (readings.rules bytes) refl
+
+answered-number : (n : ℕ) (h : Sheet) (f : Refusal) → n ≤ 9 → answered n h ≡ readers.Refused f → number-of f ≤ 9
+unfolding answered
+answered-number zero h f l e = absurd (let z : _≡_ {A = ℕ} 0 1 = cc in omega arith)
+answered-number (suc n) h f l e = omega (arith, l, ap number-of (let z : refusal (suc n) ≡ f = cc in z), number-refusal (suc n))
+
+-- so with a refusal handed on the tables are not used
+pub handed-on : (I : Instance) (bytes : List ℕ) (f : Refusal) (table : List ℕ) → reading bytes ≡ readers.Refused f → table ≡ table-after I (Refused f 0) table
+unfolding reading
+handed-on I bytes f table e =
+    let l = answered-number (lowest (readings.rules bytes)) (header bytes) f (lowest-le bytes) e in
+    rw (ne-eqb (number-of f) 12 (λ q. omega arith))

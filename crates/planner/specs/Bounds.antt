@@ -1,0 +1,12 @@
+-- The call that gives the bound of the count: 01's section "Splits weighed".
+use Prim.Native.Nat.{ℕ, _-_, _*_, _^_}
+use mathlib.Core.Bool.{_&&_, cond}
+use lib.Dec.{leb}
+use Rattle.sheet.specs.Limits.{max-services, max-cabinets}
+use Rattle.sheet.specs.Refusals.{refusal}
+use Rattle.planner.specs.declared.SplitBound.{SplitBound}
+use Rattle.planner.specs.declared.SplitBound.the-variants.{AtMost, Refused}
+
+-- (s - 1) × 3^r within the sheet's limits, refusal 2 outside
+unfoldable pub split-bound : ℕ → ℕ → SplitBound
+split-bound r s = cond (leb r max-services && (leb 1 s && leb s max-cabinets)) (AtMost ((s - 1) * 3 ^ r)) (Refused (refusal 2))
