@@ -1,2 +1,3 @@
 -- What each entry point returns and writes.
 pub mod Reads
+pub mod Plans

@@ -1,0 +1,57 @@
+use mathlib.Core.Path.{ap, _∙_, subst}
+use Rattle.sheet.specs.Instance.{instance}
+use Rattle.planner.specs.Lent.{table-after, OutputAfter}
+use Rattle.planner.specs.declared.Planned.{Planned}
+use Rattle.planner.specs.Answers.{number}
+use Rattle.gazrieksne.specs.Plans.{plan-answer}
+use borrow.Author.Needs.{needs}
+use Rattle.gazrieksne.proofs.plans.gz_plan.Statement.{statement}
+use Rattle.gazrieksne.proofs.plans.gz_plan.Tie as tie
+use Rattle.gazrieksne.proofs.plans.gz_plan.Reads as reads
+use Rattle.gazrieksne.proofs.plans.gz_plan.Lts as lts
+use Rattle.gazrieksne.proofs.plans.tell.Reads as tell-reads
+use Rattle.planner.proofs.plan.Reads as plan-reads
+
+-- src/plans.rt:40:9
+plan-requires : tie.Need-plan-requires
+plan-requires c κs = search needs
+
+-- src/plans.rt:41:5
+tell-requires : tie.Need-tell-requires
+tell-requires c κs = search needs
+
+-- src/plans.rt:32:1
+same-length : tie.Need-same-length
+same-length c = search needs
+
+-- src/plans.rt:32:1
+same-length-2 : tie.Need-same-length-2
+same-length-2 c = search needs
+
+-- src/plans.rt:32:1
+same-length-3 : tie.Need-same-length-3
+same-length-3 c = search needs
+
+-- src/plans.rt:32:1
+returns : tie.Need-returns
+returns c =
+    let a = c .before .before .before .before .before .before .before .before .before .before .before .before .before .before .before .before .args in
+    let p = c .before .before .before .before .before .before .before .before .plan in
+    let e = p .ensures .0 in (
+      c .tell .ensures .0 ∙ ap number e,
+      (
+        c .tell .ensures .1 ∙ ap plan-answer e,
+        (
+          subst (λ (o : Planned). OutputAfter (instance (a .bytes .now)) o (a .output .now) (p .last .1 .0)) e (p .ensures .1 .0),
+          (
+            p .ensures .1 .1 .0 ∙ ap (λ (o : Planned). table-after (instance (a .bytes .now)) o (a .costs .now)) e,
+            p .ensures .1 .1 .1 ∙ ap (λ (o : Planned). table-after (instance (a .bytes .now)) o (a .choices .now)) e,
+          ),
+        ),
+      ),
+    )
+
+pub gz-plan-spec : {M : Type 1} → statement M
+gz-plan-spec =
+    tie.close
+    (tie.spec plan-requires tell-requires same-length same-length-2 same-length-3 returns)

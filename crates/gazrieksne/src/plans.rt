@@ -1,0 +1,65 @@
+// The entry points of the planner and of the bound.
+ghost use mathlib.Core.Path.{_≡_};
+ghost use lib.ListN.{length};
+ghost use Rattle.sheet.specs.Instance.{instance};
+ghost use Rattle.planner.specs.Answers.{number, planned};
+ghost use Rattle.planner.specs.Lent.{table-after, OutputAfter};
+ghost use Rattle.planner.specs.Bounds.{split-bound};
+ghost use Rattle.gazrieksne.specs.Plans.{plan-answer, bound-number, bound-answer};
+use crate::reads::wide;
+use planner::Planned;
+use planner::SplitBound;
+
+// The refusal's number, 0 for none; group, cost and count are written.
+fn tell(answered: Planned, answer: &mut [u64; 3]) -> u64
+    ensures refusal { λ r. ⌜ r ≡ number answered ⌝ }
+    ensures answer { λ r. ⌜ now (answer .exit) ≡ plan-answer answered ⌝ }
+{
+    match answered {
+        Planned::Plan { cost, count } => {
+            *answer = [0, cost, count];
+            0
+        }
+        Planned::Refused(refusal, count) => {
+            *answer = [refusal.group(), 0, count];
+            wide(refusal.number())
+        }
+    }
+}
+
+// The planner's call, with its answer as numbers.
+#[no_mangle]
+pub extern "C" fn gz_plan(
+    bytes: &[u8],
+    output: &mut [u16],
+    costs: &mut [u64],
+    choices: &mut [u16],
+    answer: &mut [u64; 3],
+) -> u64
+    ensures refusal { λ r. ⌜ r ≡ number (planned (now (bytes .entry)) (length (now (output .entry))) (length (now (costs .entry))) (length (now (choices .entry)))) ⌝ }
+    ensures answer { λ r. ⌜ now (answer .exit) ≡ plan-answer (planned (now (bytes .entry)) (length (now (output .entry))) (length (now (costs .entry))) (length (now (choices .entry)))) ⌝ }
+    ensures output { λ r. ⌜ OutputAfter (instance (now (bytes .entry))) (planned (now (bytes .entry)) (length (now (output .entry))) (length (now (costs .entry))) (length (now (choices .entry)))) (now (output .entry)) (now (output .exit)) ⌝ }
+    ensures costs { λ r. ⌜ now (costs .exit) ≡ table-after (instance (now (bytes .entry))) (planned (now (bytes .entry)) (length (now (output .entry))) (length (now (costs .entry))) (length (now (choices .entry)))) (now (costs .entry)) ⌝ }
+    ensures choices { λ r. ⌜ now (choices .exit) ≡ table-after (instance (now (bytes .entry))) (planned (now (bytes .entry)) (length (now (output .entry))) (length (now (costs .entry))) (length (now (choices .entry)))) (now (choices .entry)) ⌝ }
+{
+    let answered = planner::plan(bytes, output, costs, choices);
+    tell(answered, answer)
+}
+
+// The refusal's number, 0 for none; group and bound are written.
+#[no_mangle]
+pub extern "C" fn gz_bound(services: usize, cabinets: usize, answer: &mut [u64; 2]) -> u64
+    ensures refusal { λ r. ⌜ r ≡ bound-number (split-bound services cabinets) ⌝ }
+    ensures answer { λ r. ⌜ now (answer .exit) ≡ bound-answer (split-bound services cabinets) ⌝ }
+{
+    match planner::bound(services, cabinets) {
+        SplitBound::AtMost(n) => {
+            *answer = [0, n];
+            0
+        }
+        SplitBound::Refused(refusal) => {
+            *answer = [refusal.group(), 0];
+            wide(refusal.number())
+        }
+    }
+}
