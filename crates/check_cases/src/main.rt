@@ -292,10 +292,9 @@ fn road_m() {
 }
 
 // The first n bytes alone.
-fn cut(bytes: &[u8], n: usize) {
-    let plan = [0u16, 1];
+fn cut(bytes: &[u8], n: usize, plan: &[u16]) {
     if n <= bytes.len() {
-        report(&bytes[..n], &plan);
+        report(&bytes[..n], plan);
     }
 }
 
@@ -307,8 +306,8 @@ fn refusals() {
     let three = [0u16, 1, 0];
     report(&bytes, &one);
     report(&bytes, &three);
-    cut(&bytes, 15);
-    cut(&bytes, 67);
+    cut(&bytes, 15, &one);
+    cut(&bytes, 67, &one);
     put(&mut bytes, 66, 10001);
     report(&bytes, &one);
 }
@@ -416,11 +415,11 @@ const LONG_HEADER: [u16; 18] = [
 
 // A road of 200 cabinets, with the up capacity of one of them given.
 fn long_road(star: bool, narrow: usize, up_capacity: usize) {
-    let mut bytes = [0u8; 3436];
+    let mut bytes = io::buffer();
     put_all(&mut bytes, &LONG_HEADER);
     put_cabinets(&mut bytes, star, narrow, up_capacity);
     put_streams(&mut bytes);
-    report(&bytes, &SPREAD);
+    cut(&bytes, 3436, &SPREAD);
 }
 
 // What the plan puts on the up direction of cabinet 100 of the chain, and of cabinet 5 of the star.

@@ -20,6 +20,7 @@ use Rattle.sheet.specs.declared.Refusal.the-variants.{SheetWriter, Lender, Road
 use Rattle.sheet.specs.declared.Reading.{Reading}
 use Rattle.sheet.specs.declared.Reading.the-variants as readings
 use Rattle.sheet.proofs.Promises.{well-formed}
+use Rattle.sheet.proofs.Groups.{own-group, reading-group}
 use Rattle.embedding.specs.Plan.{in-range, cabinets-keep, links-keep, valid, plan-cost}
 use Rattle.embedding.proofs.Theorems.{cost-bound}
 use Rattle.checker.specs.Check.{place, rules, answered, plan-checked, checked-after, checked}
@@ -27,46 +28,24 @@ use Rattle.sheet.specs.Refusals.{group-of}
 use Rattle.checker.specs.Answers.{number, group, cost}
 use Rattle.checker.specs.declared.Checked.{Checked}
 use Rattle.checker.specs.declared.Checked.the-variants.{Accepted, Refused}
+use Rattle.checker.proofs.Deciding.{on-plan}
 
 -- ---- numbers and groups
-
--- the refusal of a number carries that number
-pub refusal-number : (n : ℕ) → number-of (refusal n) ≡ n
-unfolding refusal
-refusal-number n = go (leb n 9) (leb n 11) (leb n 12)
-  where
-    go : (a b c : Bool) → number-of (cond a (SheetWriter n) (cond b (Lender n) (cond c (Road n) (PlanWriter n)))) ≡ n
-    go true b c = refl
-    go false true c = refl
-    go false false true = refl
-    go false false false = refl
-
--- a refusal that is the one of some number is the one of its own
-own : (f : Refusal) (n : ℕ) → f ≡ refusal n → f ≡ refusal (number-of f)
-own f n e = e ∙ ap refusal (sym (refusal-number n) ∙ sym (ap number-of e))
-
-read-group : (n : ℕ) (h : Sheet) (f : Refusal) → readers.answered n h ≡ readings.Refused f → f ≡ refusal (number-of f)
-unfolding readers.answered
-read-group zero h f e = absurd (let z : _≡_ {A = ℕ} 0 1 = cc in omega arith)
-read-group (suc n) h f e = own f (suc n) (let q : f ≡ refusal (suc n) = cc in q)
 
 plan-group : (n k : ℕ) (f : Refusal) → answered n k ≡ Refused f → f ≡ refusal (number-of f)
 unfolding answered
 plan-group zero k f e = absurd (let z : _≡_ {A = ℕ} 0 1 = cc in omega arith)
-plan-group (suc n) k f e = own f (suc n) (let q : f ≡ refusal (suc n) = cc in q)
+plan-group (suc n) k f e = own-group f (suc n) (let q : f ≡ refusal (suc n) = cc in q)
 
 -- every refusal of the check is the one of its number, so each number is in its group
 pub right-group : (bytes plan : List ℕ) (f : Refusal) → checked bytes plan ≡ Refused f → f ≡ refusal (number-of f)
-unfolding checked checked-after plan-checked readers.reading
+unfolding checked checked-after plan-checked
 right-group bytes plan f e = go (reading bytes) refl e
   where
     go : (r : Reading) → reading bytes ≡ r → checked-after r (instance bytes) plan ≡ Refused f → f ≡ refusal (number-of f)
     go (readings.Accepted h) q e = plan-group _ _ f e
-    go (readings.Refused g) q e = handed g (given g q) (let z : g ≡ f = cc in z)
+    go (readings.Refused g) q e = handed g (reading-group bytes g q) (let z : g ≡ f = cc in z)
       where
-        given : (g : Refusal) → reading bytes ≡ readings.Refused g → g ≡ refusal (number-of g)
-        given g q = read-group (lowest (readers.rules bytes)) (header bytes) g q
-
         handed : (g : Refusal) → g ≡ refusal (number-of g) → g ≡ f → f ≡ refusal (number-of f)
         handed g p q = rw (sym q) p
 
@@ -88,11 +67,11 @@ all-passed false b c d cost k = (λ e. absurd (let z : _≡_ {A = ℕ} 0 1 = cc 
 pub accepted-iff : (bytes : List ℕ) (h : Sheet) → reading bytes ≡ readings.Accepted h → (plan : List ℕ) (k : ℕ) →
     (checked bytes plan ≡ Accepted k)
     ↔ ((length plan ≡ instance bytes .r) × (valid (instance bytes) (place plan) ≡ true) × (plan-cost (instance bytes) (place plan) ≡ k))
-unfolding checked checked-after plan-checked rules lowest valid
+unfolding plan-checked rules lowest valid
 accepted-iff bytes h reads plan k =
     let I = instance bytes in
     let t = all-passed (eqb (length plan) (I .r)) (in-range I (place plan)) (cabinets-keep I (place plan)) (links-keep I (place plan)) (plan-cost I (place plan)) k in
-    let e : checked bytes plan ≡ plan-checked I plan = ap (λ (r : Reading). checked-after r I plan) reads in (
+    let e = on-plan bytes plan h reads in (
       λ q. let p = t .0 (sym e ∙ q) in (eqb-true _ _ (p .0), p .1, p .2),
       λ p. e ∙ t .1 (eq-eqb _ _ (p .0), p .1, p .2),
     )
@@ -118,10 +97,12 @@ cost-low bytes plan k e =
 
 -- ---- the numbers of an answer
 
+-- where the plan is accepted
 pub numbers-accepted : (bytes plan : List ℕ) (k : ℕ) → checked bytes plan ≡ Accepted k
     → (number (checked bytes plan) ≡ 0) × (group (checked bytes plan) ≡ 0) × (cost (checked bytes plan) ≡ k)
 numbers-accepted bytes plan k e = (ap number e, ap group e, ap cost e)
 
+-- in a refusal
 pub numbers-refused : (bytes plan : List ℕ) (f : Refusal) → checked bytes plan ≡ Refused f
     → (number (checked bytes plan) ≡ number-of f) × (group (checked bytes plan) ≡ group-of f) × (cost (checked bytes plan) ≡ 0)
 numbers-refused bytes plan f e = (ap number e, ap group e, ap cost e)

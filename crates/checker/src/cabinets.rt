@@ -1,10 +1,9 @@
 // What a plan puts on cabinets: refusals 14 and 15, and the cabinets' part of the cost.
 ghost use mathlib.Core.Path.{_≡_};
-ghost use mathlib.Core.Bool.{Bool};
 ghost use lib.Dec.{eqb, ltb};
 ghost use lib.ListN.{length};
 ghost use Rattle.finite.specs.Below.{only, sum-below, all-below};
-ghost use Rattle.sheet.specs.Instance.{Instance, instance};
+ghost use Rattle.sheet.specs.Instance.{instance};
 ghost use Rattle.embedding.specs.Plan.{cabinets-keep, cabinets-cost};
 ghost use Rattle.checker.specs.Check.{place};
 ghost use Rattle.checker.specs.Records.{Placed};

@@ -2,11 +2,11 @@
 // the cabinets under c upwards, and those that enter them downwards.
 ghost use mathlib.Core.Path.{_≡_};
 ghost use mathlib.Core.Bool.{_&&_, _||_, not, false};
-ghost use Prim.Native.Nat.{ℕ, _<_};
+ghost use Prim.Native.Nat.{_<_};
 ghost use lib.Dec.{ltb};
 ghost use lib.ListN.{length, getD};
 ghost use Rattle.finite.specs.Below.{only};
-ghost use Rattle.sheet.specs.Instance.{Instance, instance};
+ghost use Rattle.sheet.specs.Instance.{instance};
 ghost use Rattle.sheet.specs.Limits.{max-cabinets};
 ghost use Rattle.embedding.specs.Plan.{cabinets-cost};
 ghost use Rattle.checker.specs.Check.{place};

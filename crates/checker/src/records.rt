@@ -1,7 +1,7 @@
 // The records of an accepted sheet, by their numbers.
 ghost use mathlib.Core.Path.{_≡_};
 ghost use Prim.Native.Nat.{_<_};
-ghost use Rattle.sheet.specs.Instance.{Instance, instance};
+ghost use Rattle.sheet.specs.Instance.{instance};
 ghost use Rattle.checker.specs.Records.{Reads, cabinet-of, stream-of};
 use sheet::Cabinet;
 use sheet::CabinetRecord;

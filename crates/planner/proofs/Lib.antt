@@ -11,5 +11,5 @@ mod Filling
 mod Walking
 mod Columns
 mod Solving
-mod Lending
+pub mod Lending
 mod Bounding

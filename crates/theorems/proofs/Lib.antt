@@ -1,3 +1,4 @@
 -- The page to open first is Demands; Cases has the worked cases.
+mod Planning
 pub mod Demands
 pub mod Cases

@@ -1,2 +1,3 @@
 -- The worked cases as one table.
+pub mod Given
 pub mod Cases

@@ -7,11 +7,8 @@ use Rattle.check_cases.proofs.cut.Tie as tie
 
 slice-aggregate-report : tie.Need-slice-aggregate-report
 slice-aggregate-report c =
-    let a = c .before .before .before .args in
+    let a = c .before .before .before .before .args in
     sym (length-take-le (a .n) (a .bytes .now) (c .before .if1 .taken))
-
-slice-aggregate-report-2 : tie.Need-slice-aggregate-report-2
-slice-aggregate-report-2 c = search needs
 
 report-requires : tie.Need-report-requires
 report-requires c κs = search needs
@@ -25,4 +22,4 @@ returns-2 c = search needs
 pub cut-spec : {M : Type 1} → statement M
 cut-spec =
     tie.close
-    (tie.spec slice-aggregate-report slice-aggregate-report-2 report-requires returns returns-2)
+    (tie.spec slice-aggregate-report report-requires returns returns-2)
