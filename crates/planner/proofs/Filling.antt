@@ -1,12 +1,11 @@
 -- All rows, from the last cabinet to the first: what holds once those from p on are rebuilt.
-use Prim.Native.Nat.{ℕ, zero, suc, _+_, _-_, _*_, _^_, _≤_, _<_}
+use Prim.Native.Nat.{ℕ, suc, _+_, _-_, _*_, _^_, _≤_, _<_}
 use native.Mathlib.Omega.{arith}
 use native.Mathlib.Nat.{mul-le-mul, pow-le-pow-right}
-use mathlib.Core.Path.{_≡_, refl, sym, ap, _∙_, subst}
+use mathlib.Core.Path.{_≡_, refl, sym, _∙_, subst}
 use mathlib.Core.Bool.{Bool, true, false}
 use mathlib.Core.List.{List}
 use lib.Dec.{eqb, ltb}
-use lib.ListN.{length}
 use borrow.Author.Tests.{eqb-true, eqb-false, lt-ltb, ltb-true, ltb-false}
 use Rattle.finite.specs.Below.{only, sum-below}
 use Rattle.finite.proofs.Booleans.{clash}
@@ -19,7 +18,7 @@ use Rattle.sheet.specs.Instance.{Instance, WellFormed}
 use Rattle.embedding.specs.Charge.{net}
 use Rattle.embedding.specs.Splits.{weighed}
 use Rattle.embedding.proofs.Theorems.{weighed-rows}
-use Rattle.planner.specs.Tables.{entry, cost-entry, choice-entry, Above, Rebuilt, Filled}
+use Rattle.planner.specs.Tables.{entry, cost-entry, choice-entry, Rebuilt, Filled}
 use Rattle.planner.proofs.Children.{child-is}
 
 module _ (I : Instance) where

@@ -1,25 +1,23 @@
 -- One child joined: the lists that the code joins hold the figures of the rows, so that the row and the choices after it are the next.
-use Prim.Native.Nat.{ℕ, suc, _+_, _-_, _*_, _^_, _≤_, _<_}
+use Prim.Native.Nat.{ℕ, _+_, _-_, _*_, _^_, _≤_, _<_}
 use native.Mathlib.Omega.{arith}
-use mathlib.Core.Path.{_≡_, refl, sym, ap, ap₂, _∙_, subst}
+use mathlib.Core.Path.{_≡_, ap, ap₂, _∙_}
 use mathlib.Core.Bool.{true}
 use mathlib.Core.List.{List}
-use lib.ListN.{length, getD, take, drop}
+use lib.ListN.{length, getD}
 use borrow.Rule.Slice.PartMut.{putMid}
-use Rattle.subsets.specs.Sets.{has}
-use Rattle.subsets.specs.Figures.{figure}
-use Rattle.subsets.specs.Rows.{child, row-at, choice-at}
+use Rattle.subsets.specs.Rows.{child, row-at}
 use Rattle.subsets.specs.Folds.{Holds, counted-below}
 use Rattle.subsets.proofs.Tables.{next-figure, next-choice, next-count}
-use Rattle.sheet.specs.Instance.{Instance, WellFormed}
-use Rattle.embedding.specs.Charge.{leaving, entering, link-charge, net}
+use Rattle.sheet.specs.Instance.{WellFormed}
+use Rattle.embedding.specs.Charge.{link-charge, net}
 use Rattle.planner.specs.declared.Records.{Records}
 use Rattle.planner.specs.Loaded.{held}
 use Rattle.planner.specs.Sums.{link-figure}
 use Rattle.planner.specs.Joins.{Joined}
-use Rattle.planner.specs.Tables.{entry, cost-entry, Ready, Summed, JoinedChild}
+use Rattle.planner.specs.Tables.{Summed, JoinedChild}
 use Rattle.planner.proofs.Charging.{cabinet-of, link-is, falls, nodes, links, small}
-use Rattle.planner.proofs.Parted.{Room, room, row-length, row-entry, row-put}
+use Rattle.planner.proofs.Parted.{row-put}
 
 module _ (k : Records) (W : WellFormed (held k)) (p c : ℕ) (hc : c < held k .s) (e : child (net (held k)) p c ≡ true) where
   -- the list of the link's figures

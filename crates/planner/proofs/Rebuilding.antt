@@ -1,6 +1,6 @@
 -- A row rebuilt child by child, and all rows one after the other.
-use Prim.Native.Nat.{ℕ, zero, suc, _+_, _*_, _^_, _≤_, _<_}
-use native.Mathlib.Nat.{mul-le-mul, mul-le-mul-right, pow-le-pow-right}
+use Prim.Native.Nat.{ℕ, suc, _+_, _*_, _^_, _≤_, _<_}
+use native.Mathlib.Nat.{mul-le-mul-right, pow-le-pow-right}
 use native.Mathlib.Omega.{arith}
 use mathlib.Core.Path.{_≡_, refl, sym, ap, _∙_, subst}
 use mathlib.Core.Bool.{Bool, true, false}
@@ -8,19 +8,18 @@ use mathlib.Core.List.{List}
 use lib.ListN.{length}
 use lib.Dec.{eqb, ltb}
 use borrow.Author.Tests.{eqb-true, eqb-false, ltb-true, ltb-false}
-use Rattle.finite.specs.Below.{only, sum-below}
+use Rattle.finite.specs.Below.{only}
 use Rattle.finite.proofs.Booleans.{clash}
 use Rattle.finite.proofs.Sums.{sum-le, only-le}
 use Rattle.subsets.specs.Figures.{figure}
-use Rattle.subsets.specs.Rows.{child, row-at, choice-at}
+use Rattle.subsets.specs.Rows.{child, choice-at}
 use Rattle.subsets.specs.Count as counts
 use Rattle.subsets.specs.Count.{pairs, flagged, joins}
-use Rattle.subsets.proofs.Rows.{child-parent}
 use Rattle.subsets.proofs.Count.{joins-child, pairs-le}
 use Rattle.sheet.specs.Instance.{Instance, WellFormed}
 use Rattle.embedding.specs.Charge.{cabinet-charge, net}
 use Rattle.planner.specs.Tables.{entry, RowSet, JoinedChild, Rebuilt}
-use Rattle.planner.proofs.Children.{child-above, row-skip, joins-skip, row-start, joins-start, none-up-to}
+use Rattle.planner.proofs.Children.{row-skip, joins-skip, row-start, joins-start, none-up-to}
 
 -- a row set twice
 pub row-again : (size p : ℕ) (f g : ℕ → ℕ) (t t₁ t₂ : List ℕ) → RowSet size p f t t₁ → RowSet size p g t₁ t₂ → RowSet size p g t t₂

@@ -1,23 +1,20 @@
 -- From filled tables to the answer: the root's figure is the cheapest cost, and the plan read back is valid at that cost.
-use Prim.Native.Nat.{ℕ, zero, suc, _+_, _-_, _*_, _^_, _≤_, _<_}
+use Prim.Native.Nat.{ℕ, _+_, _-_, _*_, _^_, _≤_, _<_}
 use native.Mathlib.Omega.{arith}
-use mathlib.Core.Path.{_≡_, refl, sym, ap, ap₂, _∙_, subst}
-use mathlib.Core.Bool.{Bool, true, false}
-use mathlib.Core.List.{List, [], _++_}
+use mathlib.Core.Path.{_≡_, refl, sym, ap, _∙_}
+use mathlib.Core.Bool.{true}
+use mathlib.Core.List.{List}
 use lib.Bits.{bitAnd}
-use lib.Dec.{ltb}
-use lib.ListN.{length, getD, take, drop, drop-of-length-le}
-use lib.Seq.{take-all}
+use lib.ListN.{getD}
 use borrow.Author.Tests.{lt-ltb}
 use Rattle.finite.specs.Below.{only}
-use Rattle.subsets.specs.Sets.{full, has}
+use Rattle.subsets.specs.Sets.{full}
 use Rattle.subsets.specs.Costs.{Cost, none, some}
 use Rattle.subsets.specs.Figures as figures
 use Rattle.subsets.specs.Figures.{limit, figure}
-use Rattle.subsets.specs.Net.{Least}
 use Rattle.subsets.specs.Splits.{split-charge}
 use Rattle.subsets.specs.Rows.{row-at, choice-at}
-use Rattle.subsets.specs.Back.{stays, seat, Wins, Meets}
+use Rattle.subsets.specs.Back.{seat, Wins}
 use Rattle.subsets.proofs.Sets.{has-full, full-lt}
 use Rattle.subsets.proofs.Rows.{row-root}
 use Rattle.subsets.proofs.Back.{choice-wins, seat-root}

@@ -2,8 +2,8 @@
 use Prim.Native.Nat.{ℕ, zero, suc, _+_, _-_, _*_, _^_, _≤_, _<_}
 use native.Mathlib.Omega.{arith}
 use native.Mathlib.Nat.{mul-le-mul-right}
-use mathlib.Core.Path.{_≡_, refl, sym, ap, _∙_, subst}
-use mathlib.Core.Bool.{Bool, true, false}
+use mathlib.Core.Path.{_≡_, refl, sym, _∙_}
+use mathlib.Core.Bool.{true, false}
 use lib.Bits.{bitAnd, and-le-r}
 use Rattle.subsets.specs.Sets.{has}
 use Rattle.subsets.specs.Tree.{Falls}
@@ -11,7 +11,7 @@ use Rattle.subsets.specs.Net.{Net}
 use Rattle.subsets.specs.Rows.{child}
 use Rattle.subsets.specs.Back.{seat}
 use Rattle.subsets.proofs.Back.{seat-end, seat-pass, seat-stay, seat-leave}
-use Rattle.planner.proofs.Children.{child-is, child-not, child-above, none-up-to}
+use Rattle.planner.proofs.Children.{child-is, child-not, none-up-to}
 
 -- from here, with the set and the children below c left, service i comes where it came from p with x
 pub record Walked (N : Net) (choice : ℕ → ℕ → ℕ) (p x i here c set : ℕ) : Type 0 where

@@ -1,6 +1,6 @@
 -- What the planner answers: 01's sections "The planner" and "Who can cause a refusal".
 use Prim.Native.Nat.{ℕ, zero, suc, _*_, _^_}
-use mathlib.Core.Bool.{Bool, _||_}
+use mathlib.Core.Bool.{_||_}
 use mathlib.Core.List.{List, [], _∷_}
 use lib.Dec.{ltb}
 use Rattle.subsets.specs.Costs.{Cost, none, some}
@@ -49,10 +49,10 @@ lent zero I = solved (cheapest I) (weighed I)
 lent (suc n) I = Refused (refusal (suc n)) 0
 
 -- the reader's refusal is handed on; an accepted sheet is planned
-abbrev pub after : Reading → Instance → ℕ → ℕ → ℕ → Planned
-after (readings.Refused f) I output costs choices = Refused f 0
-after (readings.Accepted h) I output costs choices = lent (lowest (rules I output costs choices)) I
+abbrev pub answered : Reading → Instance → ℕ → ℕ → ℕ → Planned
+answered (readings.Refused f) I output costs choices = Refused f 0
+answered (readings.Accepted h) I output costs choices = lent (lowest (rules I output costs choices)) I
 
 -- the planner's answer to a sheet, for an output and tables of so many places
 unfoldable pub planned : List ℕ → ℕ → ℕ → ℕ → Planned
-planned bytes output costs choices = after (reading bytes) (instance bytes) output costs choices
+planned bytes output costs choices = answered (reading bytes) (instance bytes) output costs choices

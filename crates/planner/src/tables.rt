@@ -181,22 +181,22 @@ pub fn fill(costs: &mut [u64], choices: &mut [u16], records: Records, size: usiz
     fill_rows(costs, choices, records, &demands, &leaving, &entering, size)
 }
 
-pub fn clear_costs(table: &mut [u64])
-    ensures { λ u. ⌜ now (table .exit) ≡ replicate (length (now (table .entry))) 0 ⌝ }
+pub fn clear_costs(costs: &mut [u64])
+    ensures { λ u. ⌜ now (costs .exit) ≡ replicate (length (now (costs .entry))) 0 ⌝ }
 {
     let mut i = 0;
-    while i < table.len() {
-        table[i] = 0;
+    while i < costs.len() {
+        costs[i] = 0;
         i += 1;
     }
 }
 
-pub fn clear_choices(table: &mut [u16])
-    ensures { λ u. ⌜ now (table .exit) ≡ replicate (length (now (table .entry))) 0 ⌝ }
+pub fn clear_choices(choices: &mut [u16])
+    ensures { λ u. ⌜ now (choices .exit) ≡ replicate (length (now (choices .entry))) 0 ⌝ }
 {
     let mut i = 0;
-    while i < table.len() {
-        table[i] = 0;
+    while i < choices.len() {
+        choices[i] = 0;
         i += 1;
     }
 }

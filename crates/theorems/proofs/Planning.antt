@@ -30,7 +30,8 @@ use Rattle.embedding.specs.Definition1.{Feasible, cost}
 use Rattle.embedding.specs.Limits.{Limits}
 use Rattle.embedding.specs.Road.{road}
 use Rattle.embedding.proofs.Theorems.{plan-iff-mapping, cheapest-mapping, cheapest-none}
-use Rattle.planner.specs.Answers.{entries, rules, solved, lent, after, planned}
+use Rattle.planner.specs.Answers as plans
+use Rattle.planner.specs.Answers.{entries, rules, solved, lent, planned}
 use Rattle.planner.specs.declared.Planned.{Planned}
 use Rattle.planner.specs.declared.Planned.the-variants.{Plan, Refused}
 use Rattle.planner.specs.Lent.{table-after}
@@ -123,7 +124,7 @@ pub answered : (bytes : List ℕ) (output costs choices : ℕ) → Answered (pla
 unfolding planned
 answered bytes output costs choices = go (reading bytes) refl
   where
-    go : (r : Reading) → reading bytes ≡ r → Answered (after r (instance bytes) output costs choices)
+    go : (r : Reading) → reading bytes ≡ r → Answered (plans.answered r (instance bytes) output costs choices)
     go (readings.Refused f) e =
         let g = reader-given bytes f e in
         inr (f, 0, refl, wider f g, λ h. refl)
@@ -137,7 +138,7 @@ pub accepted-solved :
     planned bytes output costs choices ≡ solved (cheapest (instance bytes)) (weighed (instance bytes))
 unfolding planned
 accepted-solved bytes h e output costs choices o c d =
-    ap (λ (r : Reading). after r (instance bytes) output costs choices) e
+    ap (λ (r : Reading). plans.answered r (instance bytes) output costs choices) e
     ∙ sym (enough (instance bytes) output costs choices o c d)
 
 -- ---- the cheapest

@@ -1,47 +1,36 @@
 -- `bound` meets its contract, case by case.
-use Prim.Native.Nat.{ℕ, zero, suc, _+_, _-_, _*_, _^_, _≤_, _<_}
+use Prim.Native.Nat.{ℕ, _-_, _*_}
 use native.Mathlib.Omega.{arith}
-use mathlib.Core.Path.{_≡_, refl, sym, ap, _∙_, subst}
+use mathlib.Core.Path.{ap, _∙_}
 use borrow.Author.Needs.{needs}
 use Rattle.planner.specs.declared.SplitBound.the-variants.{AtMost}
 use Rattle.planner.proofs.Bounding.{no-cabinets, many-cabinets, many-services, power-value, bound-fits, within}
 use Rattle.planner.proofs.bound.Statement.{statement}
 use Rattle.planner.proofs.bound.Tie as tie
-use Rattle.planner.proofs.bound.Reads as reads
-use Rattle.planner.proofs.bound.Lts as lts
-use Rattle.subsets.proofs.power_of_three.Reads as power-of-three-reads
 
--- src/lib.rt:145:9
 returns : tie.Need-returns
 returns c = no-cabinets _ _ (c .if1 .taken)
 
--- src/lib.rt:148:9
 returns-2 : tie.Need-returns-2
 returns-2 c = many-cabinets _ _ (c .if2 .taken)
 
--- src/lib.rt:150:9
 power-of-three-requires : tie.Need-power-of-three-requires
 power-of-three-requires c κs = search needs
 
--- src/lib.rt:151:31
 enum-known-power : tie.Need-enum-known-power
 enum-known-power c = search needs
 
--- src/lib.rt:152:36
 enum-told : tie.Need-enum-told
 enum-told c = search needs
 
--- src/lib.rt:152:9
 returns-3 : tie.Need-returns-3
 returns-3 c = many-services _ _ _ (c .before .before .power-of-three .ensures) (c .enum-told .given .1)
 
--- src/lib.rt:154:24
 mul-t11 : tie.Need-mul-t11
 mul-t11 c =
     let p = power-value (c .before .before .before .before .before .before .args .services) (c .before .before .before .before .before .before .args .cabinets) _ _ (c .before .before .before .power-of-three .ensures) (c .before .power .given .1) in
     omega (arith, ap (λ (n : ℕ). (c .before .before .before .before .before .before .args .cabinets - 1) * n) (p .1), bound-fits (c .before .before .before .before .before .before .args .services) (c .before .before .before .before .before .before .args .cabinets) (p .0) (c .before .before .before .before .if2 .left))
 
--- src/lib.rt:141:1
 returns-4 : tie.Need-returns-4
 returns-4 c =
     let p = power-value (c .before .before .before .before .before .before .args .services) (c .before .before .before .before .before .before .args .cabinets) _ _ (c .before .before .before .power-of-three .ensures) (c .before .power .given .1) in

@@ -1,18 +1,17 @@
 -- `plan_accepted` meets its contract: the lender's refusals in their order, then the first part of each buffer is lent on.
-use Prim.Native.Nat.{ℕ, zero, suc, _+_, _-_, _*_, _^_, _≤_, _<_}
+use Prim.Native.Nat.{ℕ, _+_, _-_, _*_, _^_}
 use native.Mathlib.Omega.{arith}
 use mathlib.Core.Path.{_≡_, refl, sym, ap, _∙_, subst}
 use borrow.Author.Needs.{needs}
 use mathlib.Core.Path.{ap₂}
 use native.Mathlib.Nat.{mul-le-mul}
-use mathlib.Core.List.{List, _++_}
-use lib.ListN.{length, getD, take, drop, replicate}
+use mathlib.Core.List.{_++_}
+use lib.ListN.{take, drop, replicate}
 use lib.Seq.{length-take-le}
 use Rattle.sheet.specs.Instance.{Instance, WellFormed, instance}
 use Rattle.sheet.proofs.Promises as promises
 use Rattle.embedding.specs.Plan.{cheapest}
 use Rattle.embedding.specs.Splits.{weighed}
-use Rattle.planner.specs.declared.Planned.{Planned}
 use Rattle.planner.specs.Answers.{entries, solved}
 use Rattle.planner.specs.Loaded.{held}
 use Rattle.planner.specs.Lent.{table-after, OutputAfter}
@@ -20,19 +19,10 @@ use Rattle.planner.proofs.Charging.{sets-le}
 use Rattle.planner.proofs.Lending.{short-output, short-costs, short-choices, enough, table-lifted, output-lifted}
 use Rattle.planner.proofs.plan_accepted.Statement.{statement}
 use Rattle.planner.proofs.plan_accepted.Tie as tie
-use Rattle.planner.proofs.plan_accepted.Reads as reads
-use Rattle.planner.proofs.plan_accepted.Lts as lts
-use Rattle.planner.proofs.loading.load.Reads as load-reads
-use Rattle.planner.proofs.sets_of.Reads as sets-of-reads
-use Rattle.planner.proofs.solve.Reads as solve-reads
-use Rattle.sheet.proofs.Sheet.cabinets.Reads as cabinets-reads
-use Rattle.sheet.proofs.Sheet.services.Reads as services-reads
 
--- src/lib.rt:106:9
 services-requires : tie.Need-services-requires
 services-requires c κs = search needs
 
--- src/lib.rt:107:19
 cabinets-requires : tie.Need-cabinets-requires
 cabinets-requires c κs = search needs
 
@@ -48,61 +38,48 @@ entries-is c =
     ap₂ (λ (m n : ℕ). m * n) (c .before .cabinets .ensures ∙ promises.counts (c .before .before .before .before .before .before .before .args .bytes .now) (c .before .before .before .before .before .before .before .args .sheet) (c .before .before .before .before .before .before .before .pre) .1)
     (c .sets-of .ensures ∙ ap (λ (n : ℕ). 2 ^ n) (services-is c))
 
--- src/lib.rt:107:38
 sets-of-requires : tie.Need-sets-of-requires
 sets-of-requires c κs = omega (arith, c .before .services .ensures, promises.counts (c .before .before .before .before .before .before .args .bytes .now) (c .before .before .before .before .before .before .args .sheet) (c .before .before .before .before .before .before .pre) .0, well (c .before .before .before .before .before .before) .services)
 
--- src/lib.rt:107:19
 mul-entries : tie.Need-mul-entries
 mul-entries c =
     let W = well (c .before .before .before .before .before .before .before) in
     omega (arith, entries-is c, mul-le-mul (W .cabinets) (sets-le (instance (c .before .before .before .before .before .before .before .args .bytes .now)) W))
 
--- src/lib.rt:109:9
 returns : tie.Need-returns
 returns c = (short-output (instance (c .before .before .before .before .before .before .before .before .args .bytes .now)) _ _ _ (omega (arith, services-is (c .before), c .if1 .taken)), (refl, (refl, refl)))
 
--- src/lib.rt:112:9
 returns-2 : tie.Need-returns-2
 returns-2 c =
     let I = instance (c .before .before .before .before .before .before .before .before .before .args .bytes .now) in
     (short-costs I _ _ _ (omega (arith, services-is (c .before .before), c .before .if1 .left)) (omega (arith, entries-is (c .before .before), c .if2 .taken)), (refl, (refl, refl)))
 
--- src/lib.rt:115:9
 returns-3 : tie.Need-returns-3
 returns-3 c =
     let I = instance (c .before .before .before .before .before .before .before .before .before .before .args .bytes .now) in
     (short-choices I _ _ _ (omega (arith, services-is (c .before .before .before), c .before .before .if1 .left)) (omega (arith, entries-is (c .before .before .before), c .if3 .taken)), (refl, (refl, refl)))
 
--- src/lib.rt:117:9
 load-requires : tie.Need-load-requires
 load-requires c κs = search needs
 
--- src/lib.rt:118:20
 slice-relend-prefix-solve : tie.Need-slice-relend-prefix-solve
 slice-relend-prefix-solve c = search needs
 
--- src/lib.rt:118:20
 slice-aggregate-solve : tie.Need-slice-aggregate-solve
 slice-aggregate-solve c = sym (length-take-le _ _ (c .before .before .before .before .if1 .left))
 
--- src/lib.rt:118:38
 slice-relend-prefix-solve-2 : tie.Need-slice-relend-prefix-solve-2
 slice-relend-prefix-solve-2 c = search needs
 
--- src/lib.rt:118:38
 slice-aggregate-solve-2 : tie.Need-slice-aggregate-solve-2
 slice-aggregate-solve-2 c = sym (length-take-le _ _ (c .before .before .before .before .if2 .left))
 
--- src/lib.rt:118:61
 slice-relend-prefix-solve-3 : tie.Need-slice-relend-prefix-solve-3
 slice-relend-prefix-solve-3 c = search needs
 
--- src/lib.rt:118:61
 slice-aggregate-solve-3 : tie.Need-slice-aggregate-solve-3
 slice-aggregate-solve-3 c = sym (length-take-le _ _ (c .before .before .before .before .if3 .left))
 
--- src/lib.rt:118:5
 solve-requires : tie.Need-solve-requires
 solve-requires c κs =
     let e = c .before .before .before .load .ensures in
@@ -114,19 +91,15 @@ solve-requires c κs =
       ),
     )
 
--- src/lib.rt:96:1
 same-length : tie.Need-same-length
 same-length c = search needs
 
--- src/lib.rt:96:1
 same-length-2 : tie.Need-same-length-2
 same-length-2 c = search needs
 
--- src/lib.rt:96:1
 same-length-3 : tie.Need-same-length-3
 same-length-3 c = search needs
 
--- src/lib.rt:96:1
 returns-4 : tie.Need-returns-4
 returns-4 c =
     let a = c .before .before .before .before .before .before .before .before .before .before .before .before .before .before .before .before .before .before .before .before .before .args in

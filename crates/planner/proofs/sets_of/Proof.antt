@@ -1,19 +1,15 @@
 -- `sets_of` meets its contract: the shift loses nothing.
-use Prim.Native.Nat.{ℕ, zero, suc, _+_, _-_, _*_, _^_, _≤_, _<_}
+use Prim.Native.Nat.{_-_, _*_, _^_}
 use native.Mathlib.Omega.{arith}
-use mathlib.Core.Path.{_≡_, refl, sym, ap, _∙_, subst}
+use mathlib.Core.Path.{_≡_, _∙_}
 use borrow.Author.Needs.{needs}
 use lib.Pow.{shl-exact}
 use Rattle.planner.proofs.sets_of.Statement.{statement}
 use Rattle.planner.proofs.sets_of.Tie as tie
-use Rattle.planner.proofs.sets_of.Reads as reads
-use Rattle.planner.proofs.sets_of.Lts as lts
 
--- src/lib.rt:64:5
 shl-result : tie.Need-shl-result
 shl-result c = search needs
 
--- src/lib.rt:60:1
 returns : tie.Need-returns
 returns c = shl-exact {a = 1} 1 (c .args .r) 64 (omega arith) (omega arith) ∙ (let z : 1 * 2 ^ c .args .r ≡ 2 ^ c .args .r = omega arith in z)
 

@@ -5,47 +5,35 @@ use Rattle.subsets.specs.Back.{seat}
 use Rattle.embedding.specs.Charge.{net}
 use Rattle.planner.proofs.Charging.{sets-le}
 use Rattle.planner.proofs.Parted.{row-within}
-use Prim.Native.Nat.{ℕ, zero, suc, _+_, _-_, _*_, _^_, _≤_, _<_}
+use Prim.Native.Nat.{ℕ, _+_, _-_, _*_, _^_, _<_}
 use native.Mathlib.Omega.{arith}
 use mathlib.Core.Path.{_≡_, refl, sym, ap, _∙_, subst}
 use borrow.Author.Needs.{needs}
-use mathlib.Core.Bool.{true}
-use mathlib.Core.List.{List, [], _++_, append-nil}
-use lib.ListN.{length, getD, take, drop, replicate, drop-of-length-le}
+use mathlib.Core.List.{List, _++_, append-nil}
+use lib.ListN.{length, getD, replicate, drop-of-length-le}
 use lib.Pow.{pow-pos}
 use lib.Seq.{take-all}
-use Rattle.subsets.specs.Costs.{Cost, none, some}
-use Rattle.sheet.specs.Instance.{Instance, WellFormed}
+use Rattle.subsets.specs.Costs.{Cost, some}
 use Rattle.sheet.specs.Refusals.{refusal}
 use Rattle.sheet.specs.declared.Refusal.the-variants.{Road}
 use Rattle.embedding.specs.Plan.{cheapest}
 use Rattle.embedding.specs.Splits.{weighed}
 use Rattle.planner.specs.declared.Planned.the-variants.{Plan, Refused}
-use Rattle.planner.specs.Answers.{entries, solved}
+use Rattle.planner.specs.Answers.{solved}
 use Rattle.planner.specs.Loaded.{held}
-use Rattle.planner.specs.Tables.{entry, Ready, Filled, Readable}
+use Rattle.planner.specs.Tables.{entry}
 use Rattle.planner.proofs.Solving.{no-plan, some-plan, read-plan}
 use Rattle.planner.proofs.solve.Statement.{statement}
 use Rattle.planner.proofs.solve.Tie as tie
-use Rattle.planner.proofs.solve.Reads as reads
-use Rattle.planner.proofs.solve.Lts as lts
-use Rattle.planner.proofs.back.read_back.Reads as read-back-reads
-use Rattle.planner.proofs.sets_of.Reads as sets-of-reads
-use Rattle.planner.proofs.tables.clear_choices.Reads as clear-choices-reads
-use Rattle.planner.proofs.tables.clear_costs.Reads as clear-costs-reads
-use Rattle.planner.proofs.tables.fill.Reads as fill-reads
 
--- src/lib.rt:77:9
 sets-of-requires : tie.Need-sets-of-requires
 unfolding held
 sets-of-requires c κs = c .before .before .before .pre .0 .services
 
--- src/lib.rt:78:15
 sub-all : tie.Need-sub-all
 unfolding held
 sub-all c = omega (arith, c .sets-of .ensures, pow-pos (held (c .before .before .before .before .args .records) .r))
 
--- src/lib.rt:79:9
 fill-requires : tie.Need-fill-requires
 unfolding held
 fill-requires c κs =
@@ -58,12 +46,10 @@ fill-requires c κs =
       choices = P .1 .1 .1 ∙ ap (λ (n : ℕ). held (c .before .before .before .before .before .before .args .records) .s * n) (sym e);
     }
 
--- src/lib.rt:80:16
 mul-cost : tie.Need-mul-cost
 unfolding held
 mul-cost c = omega (arith, c .before .before .before .before .before .before .before .sets-of .ensures, sets-le (held (c .before .before .before .before .before .before .before .before .before .before .before .args .records)) (c .before .before .before .before .before .before .before .before .before .before .before .pre .0))
 
--- src/lib.rt:80:16
 slice-read-cost : tie.Need-slice-read-cost
 unfolding held
 slice-read-cost c =
@@ -72,23 +58,18 @@ slice-read-cost c =
     let e : c .before .before .before .before .before .before .before .before .sets-of .result ≡ 2 ^ I .r = c .before .before .before .before .before .before .before .before .sets-of .ensures in
     omega (arith, e, c .before .before .before .before .before .fill .kept .0, P .1 .1 .0, row-within (2 ^ I .r) (I .s) (P .0 .some-cabinet), pow-pos (I .r))
 
--- src/lib.rt:82:9
 clear-costs-requires : tie.Need-clear-costs-requires
 clear-costs-requires c κs = search needs
 
--- src/lib.rt:83:9
 clear-choices-requires : tie.Need-clear-choices-requires
 clear-choices-requires c κs = search needs
 
--- src/lib.rt:84:9
 same-length : tie.Need-same-length
 same-length c = search needs
 
--- src/lib.rt:84:9
 same-length-2 : tie.Need-same-length-2
 same-length-2 c = search needs
 
--- src/lib.rt:84:9
 returns : tie.Need-returns
 unfolding held refusal
 returns c =
@@ -107,7 +88,6 @@ returns c =
       ),
     )
 
--- src/lib.rt:86:5
 read-back-requires : tie.Need-read-back-requires
 unfolding held
 read-back-requires c κs =
@@ -122,27 +102,21 @@ read-back-requires c κs =
       set = omega (arith, e, pow-pos (I .r));
     }
 
--- src/lib.rt:87:5
 clear-costs-requires-2 : tie.Need-clear-costs-requires-2
 clear-costs-requires-2 c κs = search needs
 
--- src/lib.rt:88:5
 clear-choices-requires-2 : tie.Need-clear-choices-requires-2
 clear-choices-requires-2 c κs = search needs
 
--- src/lib.rt:68:1
 same-length-3 : tie.Need-same-length-3
 same-length-3 c = search needs
 
--- src/lib.rt:68:1
 same-length-4 : tie.Need-same-length-4
 same-length-4 c = search needs
 
--- src/lib.rt:68:1
 same-length-5 : tie.Need-same-length-5
 same-length-5 c = search needs
 
--- src/lib.rt:68:1
 returns-2 : tie.Need-returns-2
 unfolding held
 returns-2 c =

@@ -1,22 +1,17 @@
 -- `read_back` meets its contract, place by place; every cabinet is below 200.
-use Prim.Native.Nat.{ℕ, zero, suc, _+_, _-_, _*_, _^_, _≤_, _<_}
+use Prim.Native.Nat.{ℕ, _-_, _^_, _≤_, _<_}
 use native.Mathlib.Omega.{arith}
-use mathlib.Core.Path.{_≡_, refl, sym, ap, _∙_, subst}
+use mathlib.Core.Path.{_≡_}
 use borrow.Author.Needs.{needs}
-use mathlib.Core.List.{List}
-use lib.ListN.{length, getD, set, length-set}
+use lib.ListN.{length, getD, length-set}
 use Rattle.subsets.specs.Back.{seat}
 use Rattle.subsets.proofs.Back.{seat-below}
-use Rattle.sheet.specs.Instance.{Instance, WellFormed}
 use Rattle.embedding.specs.Charge.{net}
 use Rattle.planner.specs.Loaded.{held}
-use Rattle.planner.specs.Tables.{entry, Readable}
+use Rattle.planner.specs.Tables.{entry}
 use Rattle.planner.proofs.Written.{next-written}
 use Rattle.planner.proofs.back.read_back.Statement.{statement}
 use Rattle.planner.proofs.back.read_back.Tie as tie
-use Rattle.planner.proofs.back.read_back.Reads as reads
-use Rattle.planner.proofs.back.read_back.Lts as lts
-use Rattle.planner.proofs.back.walk_down.Reads as walk-down-reads
 
 abbrev Inv-loop : tie.InvT-loop
 Inv-loop output₀ records choices size p x i₀ output i = (i ≤ length output₀) × (length output ≡ length output₀) × ((d : ℕ) → d < i → getD output d 0 ≡ seat (net (held records)) (entry (2 ^ held records .r) choices) p (held records .s) x d)
@@ -24,15 +19,12 @@ Inv-loop output₀ records choices size p x i₀ output i = (i ≤ length output
 abbrev μ-loop : tie.MeasureT-loop
 μ-loop output₀ records choices size p x i₀ output i = length output₀ - i
 
--- src/back.rt:53:5
 loop-holds : tie.Need-loop-holds Inv-loop μ-loop
 loop-holds c = (search needs, search needs, λ d l. absurd (omega arith))
 
--- src/back.rt:54:21
 walk-down-requires : tie.Need-walk-down-requires Inv-loop μ-loop
 walk-down-requires c κs = c .before .before .before .before .pre
 
--- src/back.rt:54:21
 cast-output : tie.Need-cast-output Inv-loop μ-loop
 cast-output c =
     let a = c .before .before .before .before .before .args in
@@ -41,23 +33,18 @@ cast-output c =
     let low : c .walk-down .result < I .s = rw (c .walk-down .ensures) (seat-below (net I) (entry (2 ^ I .r) (a .choices .now)) (P .well-formed .parents) (a .p) (I .s) (a .x) (c .before .before .loop .i) (P .cabinet) (omega arith)) in
     omega (arith, low, P .well-formed .cabinets)
 
--- src/back.rt:54:9
 mul-output : tie.Need-mul-output Inv-loop μ-loop
 mul-output c = search needs
 
--- src/back.rt:54:9
 slice-write-output : tie.Need-slice-write-output Inv-loop μ-loop
 slice-write-output c = search needs
 
--- src/back.rt:55:9
 add-i : tie.Need-add-i Inv-loop μ-loop
 add-i c = search needs
 
--- src/back.rt:53:5
 loop-less : tie.Need-loop-less Inv-loop μ-loop
 loop-less c = search needs
 
--- src/back.rt:53:5
 loop-again : tie.Need-loop-again Inv-loop μ-loop
 loop-again c =
     let a = c .before .before .before .before .before .args in
@@ -68,11 +55,9 @@ loop-again c =
       next-written (l .output) (l .i) (c .walk-down .result) (seat (net I) (entry (2 ^ I .r) (a .choices .now)) (a .p) (I .s) (a .x)) (omega arith) (c .walk-down .ensures) (l .inv .2),
     )
 
--- src/back.rt:45:1
 same-length : tie.Need-same-length Inv-loop μ-loop
 same-length c = search needs
 
--- src/back.rt:45:1
 returns : tie.Need-returns Inv-loop μ-loop
 returns c = λ i l. c .before .loop .inv .2 i (omega arith)
 

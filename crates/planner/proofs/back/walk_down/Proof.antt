@@ -2,27 +2,20 @@
 use native.Mathlib.Nat.{mul-le-mul}
 use Rattle.planner.proofs.Charging.{sets-le}
 use Rattle.planner.proofs.Parted.{row-within}
-use Prim.Native.Nat.{ℕ, zero, suc, _+_, _-_, _*_, _^_, _≤_, _<_}
+use Prim.Native.Nat.{ℕ, suc, _+_, _-_, _*_, _^_, _≤_, _<_}
 use native.Mathlib.Omega.{arith}
-use mathlib.Core.Path.{_≡_, refl, sym, ap, _∙_, subst}
+use mathlib.Core.Path.{_≡_, sym, ap, _∙_, subst}
 use borrow.Author.Needs.{needs}
-use mathlib.Core.Bool.{Bool, true, false}
-use mathlib.Core.List.{List}
 use lib.Bits.{bitAnd, and-le-r}
-use lib.ListN.{length, getD}
+use lib.ListN.{length}
 use Rattle.subsets.specs.Sets.{has}
-use Rattle.sheet.specs.Instance.{Instance, WellFormed}
 use Rattle.embedding.specs.Charge.{net}
 use Rattle.planner.specs.Loaded.{held}
-use Rattle.planner.specs.Tables.{entry, Readable}
+use Rattle.planner.specs.Tables.{entry}
 use Rattle.planner.proofs.Children.{child-is, child-above}
 use Rattle.planner.proofs.Walking.{Walked, to-walk, walk-less, walk-start, walk-other, walk-stays, walk-leaves, walk-end}
 use Rattle.planner.proofs.back.walk_down.Statement.{statement}
 use Rattle.planner.proofs.back.walk_down.Tie as tie
-use Rattle.planner.proofs.back.walk_down.Reads as reads
-use Rattle.planner.proofs.back.walk_down.Lts as lts
-use Rattle.planner.proofs.back.index.Reads as index-reads
-use Rattle.subsets.proofs.member.Reads as member-reads
 
 abbrev Inv-loop : tie.InvT-loop
 Inv-loop choices size p x i records n here₀ set₀ c₀ here set c = Walked (net (held records)) (entry (2 ^ held records .r) choices) p x i here c set
@@ -30,21 +23,17 @@ Inv-loop choices size p x i records n here₀ set₀ c₀ here set c = Walked (n
 abbrev μ-loop : tie.MeasureT-loop
 μ-loop choices size p x i records n here₀ set₀ c₀ here set c = to-walk n here c
 
--- src/back.rt:27:5
 loop-holds : tie.Need-loop-holds Inv-loop μ-loop
 unfolding held
 loop-holds c = walk-start (net (held (c .before .args .t1))) (c .before .pre .well-formed .parents) _ _ _ _ (c .before .pre .cabinet) (omega (arith, c .before .pre .set, c .before .pre .row-size))
 
--- src/back.rt:28:9
 sub-c : tie.Need-sub-c Inv-loop μ-loop
 sub-c c = search needs
 
--- src/back.rt:29:17
 mul-k : tie.Need-mul-k Inv-loop μ-loop
 unfolding held
 mul-k c = omega (arith, c .before .loop .inv .left, c .before .before .before .pre .well-formed .cabinets)
 
--- src/back.rt:29:17
 element-copy-out-k : tie.Need-element-copy-out-k Inv-loop μ-loop
 unfolding held
 element-copy-out-k c = omega (arith, c .before .loop .inv .left, c .before .before .before .pre .well-formed .cabinets)
@@ -74,35 +63,27 @@ stays-is c =
     let l = c .before .before .before .before .before .before .loop in
     ap (λ (z : ℕ). bitAnd z (l .set)) (c .index .ensures ∙ ap (λ (z : ℕ). entry z (a .choices .now) (l .c - 1) (l .set)) (c .before .before .before .before .before .before .before .before .pre .row-size))
 
--- src/back.rt:31:39
 mul-index : tie.Need-mul-index Inv-loop μ-loop
 mul-index c = omega (arith, index-fits c)
 
--- src/back.rt:31:39
 add-index : tie.Need-add-index Inv-loop μ-loop
 add-index c = omega (arith, index-fits c)
 
--- src/back.rt:31:31
 mul-index-2 : tie.Need-mul-index-2 Inv-loop μ-loop
 mul-index-2 c = omega (arith, index-fits c)
 
--- src/back.rt:31:31
 shared-slice-read-index : tie.Need-shared-slice-read-index Inv-loop μ-loop
 shared-slice-read-index c = index-fits (c .before) .0
 
--- src/back.rt:31:25
 index-requires : tie.Need-index-requires Inv-loop μ-loop
 index-requires c κs = search needs
 
--- src/back.rt:32:16
 member-requires : tie.Need-member-requires Inv-loop μ-loop
 member-requires c κs = search needs
 
--- src/back.rt:27:5
 loop-less : tie.Need-loop-less Inv-loop μ-loop
 loop-less c = omega arith
 
--- src/back.rt:27:5
 loop-again : tie.Need-loop-again Inv-loop μ-loop
 unfolding held
 loop-again c =
@@ -114,11 +95,9 @@ loop-again c =
     (walk-stays (net I) (c .before .before .before .before .before .before .before .before .before .before .pre .well-formed .parents) _ _ _ _ (l .here) (l .c - 1) (l .set) (turn (c .before .before .before .before .before .before .before)) (omega arith) (c .before .before .before .before .if1 .taken)
     (ap (λ (z : ℕ). has z (a .i)) (sym q) ∙ sym (c .before .member .ensures) ∙ c .if2 .taken))
 
--- src/back.rt:36:23
 sub-set : tie.Need-sub-set Inv-loop μ-loop
 sub-set c = and-le-r (c .before .before .index .result) (c .before .before .before .before .before .before .before .before .loop .set)
 
--- src/back.rt:27:5
 loop-less-2 : tie.Need-loop-less-2 Inv-loop μ-loop
 unfolding held
 loop-less-2 c =
@@ -128,7 +107,6 @@ loop-less-2 c =
     subst (λ (m : ℕ). to-walk (a .t1 .cabinets) (l .c - 1) (a .t1 .cabinets) < to-walk (a .t1 .cabinets) (l .here) m) (let z : l .c - 1 + 1 ≡ l .c = omega arith in z)
     (walk-less (a .t1 .cabinets) (l .here) (l .c - 1) h (omega (arith, l .inv .left)))
 
--- src/back.rt:27:5
 loop-again-2 : tie.Need-loop-again-2 Inv-loop μ-loop
 unfolding held
 loop-again-2 c =
@@ -140,11 +118,9 @@ loop-again-2 c =
     (walk-leaves (net I) (c .before .before .before .before .before .before .before .before .before .before .pre .well-formed .parents) _ _ _ _ (l .here) (l .c - 1) (l .set) (turn (c .before .before .before .before .before .before .before)) (omega arith) (c .before .before .before .before .if1 .taken)
     (ap (λ (z : ℕ). has z (a .i)) (sym q) ∙ sym (c .before .member .ensures) ∙ c .if2 .left))
 
--- src/back.rt:27:5
 loop-less-3 : tie.Need-loop-less-3 Inv-loop μ-loop
 loop-less-3 c = omega arith
 
--- src/back.rt:27:5
 loop-again-3 : tie.Need-loop-again-3 Inv-loop μ-loop
 unfolding held
 loop-again-3 c =
@@ -152,7 +128,6 @@ loop-again-3 c =
     let l = c .before .before .before .before .loop in
     walk-other (net (held (a .t1))) (c .before .before .before .before .before .before .pre .well-formed .parents) _ _ _ _ (l .here) (l .c - 1) (l .set) (turn (c .before .before .before)) (c .if1 .left)
 
--- src/back.rt:19:1
 returns : tie.Need-returns Inv-loop μ-loop
 unfolding held
 returns c = walk-end (net (held (c .before .before .before .args .t1))) (c .before .before .before .pre .well-formed .parents) _ _ _ _ (c .before .loop .here) (c .before .loop .c) (c .before .loop .set) (omega arith) (c .before .loop .inv)

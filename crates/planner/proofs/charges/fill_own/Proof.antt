@@ -1,16 +1,13 @@
 -- `fill_own` meets its contract, place by place.
-use Prim.Native.Nat.{ℕ, zero, suc, _+_, _-_, _*_, _^_, _≤_, _<_}
+use Prim.Native.Nat.{ℕ, _-_, _≤_, _<_}
 use native.Mathlib.Omega.{arith}
-use mathlib.Core.Path.{_≡_, refl, sym, ap, _∙_, subst}
+use mathlib.Core.Path.{_≡_}
 use borrow.Author.Needs.{needs}
-use lib.ListN.{length, getD, set, length-set}
+use lib.ListN.{length, getD, length-set}
 use Rattle.planner.specs.Sums.{own-figure}
 use Rattle.planner.proofs.Written.{next-written}
 use Rattle.planner.proofs.charges.fill_own.Statement.{statement}
 use Rattle.planner.proofs.charges.fill_own.Tie as tie
-use Rattle.planner.proofs.charges.fill_own.Reads as reads
-use Rattle.planner.proofs.charges.fill_own.Lts as lts
-use Rattle.planner.proofs.charges.own_charge.Reads as own-charge-reads
 
 abbrev Inv-loop : tie.InvT-loop
 Inv-loop row₀ demands k x₀ row x = (x ≤ length row₀) × (length row ≡ length row₀) × ((d : ℕ) → d < x → getD row d 0 ≡ own-figure k (getD demands d 0))
@@ -18,50 +15,39 @@ Inv-loop row₀ demands k x₀ row x = (x ≤ length row₀) × (length row ≡ 
 abbrev μ-loop : tie.MeasureT-loop
 μ-loop row₀ demands k x₀ row x = length row₀ - x
 
--- src/charges.rt:140:5
 loop-holds : tie.Need-loop-holds Inv-loop μ-loop
 loop-holds c = (search needs, search needs, λ d l. absurd (omega arith))
 
--- src/charges.rt:141:29
 mul-own-charge : tie.Need-mul-own-charge Inv-loop μ-loop
 mul-own-charge c = search needs
 
--- src/charges.rt:141:29
 element-copy-out-own-charge : tie.Need-element-copy-out-own-charge Inv-loop μ-loop
 element-copy-out-own-charge c = search needs
 
--- src/charges.rt:141:18
 own-charge-requires : tie.Need-own-charge-requires Inv-loop μ-loop
 own-charge-requires c κs = (c .before .before .before .before .pre .2 (c .before .before .loop .x) (omega arith), c .before .before .before .before .pre .1)
 
--- src/charges.rt:141:9
 mul-row : tie.Need-mul-row Inv-loop μ-loop
 mul-row c = search needs
 
--- src/charges.rt:141:9
 slice-write-row : tie.Need-slice-write-row Inv-loop μ-loop
 slice-write-row c = search needs
 
--- src/charges.rt:142:9
 add-x : tie.Need-add-x Inv-loop μ-loop
 add-x c = search needs
 
--- src/charges.rt:140:5
 loop-less : tie.Need-loop-less Inv-loop μ-loop
 loop-less c = search needs
 
--- src/charges.rt:140:5
 loop-again : tie.Need-loop-again Inv-loop μ-loop
 loop-again c =
     let a = c .before .before .before .before .before .args in
     let l = c .before .before .before .loop in
     (omega arith, simp length-set (l .inv .1), next-written (l .row) (l .x) (c .own-charge .result) (λ d. own-figure (a .k) (getD (a .demands .now) d 0)) (omega arith) (c .own-charge .ensures) (l .inv .2))
 
--- src/charges.rt:131:1
 same-length : tie.Need-same-length Inv-loop μ-loop
 same-length c = search needs
 
--- src/charges.rt:131:1
 returns : tie.Need-returns Inv-loop μ-loop
 returns c = λ x l. c .before .loop .inv .2 x (omega arith)
 

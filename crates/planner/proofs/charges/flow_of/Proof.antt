@@ -1,21 +1,17 @@
 -- `flow_of` meets its contract: the sum so far is that of the streams passed, of up to 10,000 each.
 use Rattle.planner.proofs.Summing.{no-flow, flow-next}
-use Prim.Native.Nat.{ℕ, zero, suc, _+_, _-_, _*_, _^_, _≤_, _<_}
+use Prim.Native.Nat.{ℕ, _-_, _*_, _≤_}
 use native.Mathlib.Omega.{arith}
-use mathlib.Core.Path.{_≡_, refl, sym, ap, _∙_, subst}
+use mathlib.Core.Path.{_≡_, ap, _∙_}
 use borrow.Author.Needs.{needs}
 use mathlib.Core.Bool.{Bool, _&&_, not}
 use lib.ListN.{getD}
-use Rattle.finite.specs.Below.{only, sum-below}
+use Rattle.finite.specs.Below.{only}
 use Rattle.finite.proofs.Sums.{only-le}
 use Rattle.subsets.specs.Sets.{has}
 use Rattle.planner.specs.Sums.{flow-out}
 use Rattle.planner.proofs.charges.flow_of.Statement.{statement}
 use Rattle.planner.proofs.charges.flow_of.Tie as tie
-use Rattle.planner.proofs.charges.flow_of.Reads as reads
-use Rattle.planner.proofs.charges.flow_of.Lts as lts
-use Rattle.planner.proofs.charges.only_if.Reads as only-if-reads
-use Rattle.planner.proofs.charges.runs_out.Reads as runs-out-reads
 
 abbrev Inv-loop : tie.InvT-loop
 Inv-loop from to load q x sum₀ j₀ sum j = (j ≤ q) × (sum ≤ j * 10000) × (sum ≡ flow-out from to load j x)
@@ -23,39 +19,30 @@ Inv-loop from to load q x sum₀ j₀ sum j = (j ≤ q) × (sum ≤ j * 10000) �
 abbrev μ-loop : tie.MeasureT-loop
 μ-loop from to load q x sum₀ j₀ sum j = q - j
 
--- src/charges.rt:67:5
 loop-holds : tie.Need-loop-holds Inv-loop μ-loop
 loop-holds c = (search needs, search needs, no-flow _ _ _ _)
 
--- src/charges.rt:68:40
 mul-runs-out : tie.Need-mul-runs-out Inv-loop μ-loop
 mul-runs-out c = search needs
 
--- src/charges.rt:68:40
 element-copy-out-runs-out : tie.Need-element-copy-out-runs-out Inv-loop μ-loop
 element-copy-out-runs-out c = search needs
 
--- src/charges.rt:68:49
 mul-runs-out-2 : tie.Need-mul-runs-out-2 Inv-loop μ-loop
 mul-runs-out-2 c = search needs
 
--- src/charges.rt:68:49
 element-copy-out-runs-out-2 : tie.Need-element-copy-out-runs-out-2 Inv-loop μ-loop
 element-copy-out-runs-out-2 c = search needs
 
--- src/charges.rt:68:28
 runs-out-requires : tie.Need-runs-out-requires Inv-loop μ-loop
 runs-out-requires c κs = search needs
 
--- src/charges.rt:68:57
 mul-only-if : tie.Need-mul-only-if Inv-loop μ-loop
 mul-only-if c = search needs
 
--- src/charges.rt:68:57
 element-copy-out-only-if : tie.Need-element-copy-out-only-if Inv-loop μ-loop
 element-copy-out-only-if c = search needs
 
--- src/charges.rt:68:13
 only-if-requires : tie.Need-only-if-requires Inv-loop μ-loop
 only-if-requires c κs = search needs
 
@@ -63,19 +50,15 @@ only-if-requires c κs = search needs
 part-le : (c : tie.After-only-if Inv-loop μ-loop) → c .only-if .result ≤ 10000
 part-le c = rw (c .only-if .ensures) (omega (arith, only-le (c .before .before .runs-out .result) (getD (c .before .before .before .before .before .before .before .args .load .now) (c .before .before .before .before .before .before .loop .j) 0), c .before .before .before .before .before .before .before .pre .1 (c .before .before .before .before .before .before .loop .j)))
 
--- src/charges.rt:69:9
 add-sum : tie.Need-add-sum Inv-loop μ-loop
 add-sum c = omega (arith, part-le c, c .before .before .before .before .before .before .loop .inv)
 
--- src/charges.rt:70:9
 add-j : tie.Need-add-j Inv-loop μ-loop
 add-j c = search needs
 
--- src/charges.rt:67:5
 loop-less : tie.Need-loop-less Inv-loop μ-loop
 loop-less c = search needs
 
--- src/charges.rt:67:5
 loop-again : tie.Need-loop-again Inv-loop μ-loop
 loop-again c =
     let a = c .before .before .before .before .before .before .before .args in
@@ -84,7 +67,6 @@ loop-again c =
     c .only-if .ensures ∙ ap (λ (t : Bool). only t (getD (a .load .now) (l .j) 0)) (c .before .before .runs-out .ensures) in
     (omega arith, omega (arith, part-le c), omega (arith, e, flow-next (a .from .now) (a .to .now) (a .load .now) (l .j) (a .x)))
 
--- src/charges.rt:55:1
 returns : tie.Need-returns Inv-loop μ-loop
 returns c = c .before .loop .inv .2 ∙ ap (λ (n : ℕ). flow-out (c .before .before .args .from .now) (c .before .before .args .to .now) (c .before .before .args .load .now) n (c .before .before .args .x)) (let z : c .before .loop .j ≡ c .before .before .args .q = omega arith in z)
 

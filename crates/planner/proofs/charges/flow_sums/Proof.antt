@@ -1,16 +1,13 @@
 -- `flow_sums` meets its contract, place by place.
-use Prim.Native.Nat.{ℕ, zero, suc, _+_, _-_, _*_, _^_, _≤_, _<_}
+use Prim.Native.Nat.{ℕ, _-_, _≤_, _<_}
 use native.Mathlib.Omega.{arith}
-use mathlib.Core.Path.{_≡_, refl, sym, ap, _∙_, subst}
+use mathlib.Core.Path.{_≡_, refl}
 use borrow.Author.Needs.{needs}
-use lib.ListN.{length, getD, set, length-set}
+use lib.ListN.{length, getD, length-set}
 use Rattle.planner.specs.Sums.{flow-out}
 use Rattle.planner.proofs.Written.{next-written}
 use Rattle.planner.proofs.charges.flow_sums.Statement.{statement}
 use Rattle.planner.proofs.charges.flow_sums.Tie as tie
-use Rattle.planner.proofs.charges.flow_sums.Reads as reads
-use Rattle.planner.proofs.charges.flow_sums.Lts as lts
-use Rattle.planner.proofs.charges.flow_of.Reads as flow-of-reads
 
 abbrev Inv-loop : tie.InvT-loop
 Inv-loop from to load q size sums₀ x₀ sums x = (x ≤ size) × (length sums ≡ 1024) × ((d : ℕ) → d < x → getD sums d 0 ≡ flow-out from to load q d)
@@ -18,38 +15,30 @@ Inv-loop from to load q size sums₀ x₀ sums x = (x ≤ size) × (length sums 
 abbrev μ-loop : tie.MeasureT-loop
 μ-loop from to load q size sums₀ x₀ sums x = size - x
 
--- src/charges.rt:99:5
 loop-holds : tie.Need-loop-holds Inv-loop μ-loop
 loop-holds c = (search needs, refl, λ d l. absurd (omega arith))
 
--- src/charges.rt:100:19
 flow-of-requires : tie.Need-flow-of-requires Inv-loop μ-loop
 flow-of-requires c κs = (c .before .before .pre .1, c .before .before .pre .2)
 
--- src/charges.rt:100:9
 mul-sums : tie.Need-mul-sums Inv-loop μ-loop
 mul-sums c = search needs
 
--- src/charges.rt:100:9
 array-write-sums : tie.Need-array-write-sums Inv-loop μ-loop
 array-write-sums c = search needs
 
--- src/charges.rt:101:9
 add-x : tie.Need-add-x Inv-loop μ-loop
 add-x c = search needs
 
--- src/charges.rt:99:5
 loop-less : tie.Need-loop-less Inv-loop μ-loop
 loop-less c = search needs
 
--- src/charges.rt:99:5
 loop-again : tie.Need-loop-again Inv-loop μ-loop
 loop-again c =
     let a = c .before .before .before .args in
     let l = c .before .before .loop in
     (omega arith, simp length-set (l .inv .1), next-written (l .sums) (l .x) (c .flow-of .result) (λ d. flow-out (a .from .now) (a .to .now) (a .load .now) (a .q) d) (omega arith) (c .flow-of .ensures) (l .inv .2))
 
--- src/charges.rt:87:1
 returns : tie.Need-returns Inv-loop μ-loop
 returns c = λ x l. c .before .loop .inv .2 x (omega arith)
 

@@ -1,16 +1,13 @@
 -- `link_row` meets its contract, place by place.
-use Prim.Native.Nat.{ℕ, zero, suc, _+_, _-_, _*_, _^_, _≤_, _<_}
+use Prim.Native.Nat.{ℕ, _-_, _≤_, _<_}
 use native.Mathlib.Omega.{arith}
-use mathlib.Core.Path.{_≡_, refl, sym, ap, _∙_, subst}
+use mathlib.Core.Path.{_≡_, refl}
 use borrow.Author.Needs.{needs}
-use lib.ListN.{length, getD, set, length-set}
+use lib.ListN.{length, getD, length-set}
 use Rattle.planner.specs.Sums.{link-figure}
 use Rattle.planner.proofs.Written.{next-written}
 use Rattle.planner.proofs.charges.link_row.Statement.{statement}
 use Rattle.planner.proofs.charges.link_row.Tie as tie
-use Rattle.planner.proofs.charges.link_row.Reads as reads
-use Rattle.planner.proofs.charges.link_row.Lts as lts
-use Rattle.planner.proofs.charges.link_charge.Reads as link-charge-reads
 
 abbrev Inv-loop : tie.InvT-loop
 Inv-loop leaving entering k size link₀ x₀ link x = (x ≤ size) × (length link ≡ 1024) × ((d : ℕ) → d < x → getD link d 0 ≡ link-figure k (getD leaving d 0) (getD entering d 0))
@@ -18,56 +15,44 @@ Inv-loop leaving entering k size link₀ x₀ link x = (x ≤ size) × (length l
 abbrev μ-loop : tie.MeasureT-loop
 μ-loop leaving entering k size link₀ x₀ link x = size - x
 
--- src/charges.rt:153:5
 loop-holds : tie.Need-loop-holds Inv-loop μ-loop
 loop-holds c = (search needs, refl, λ d l. absurd (omega arith))
 
--- src/charges.rt:154:31
 mul-link-charge : tie.Need-mul-link-charge Inv-loop μ-loop
 mul-link-charge c = search needs
 
--- src/charges.rt:154:31
 element-copy-out-link-charge : tie.Need-element-copy-out-link-charge Inv-loop μ-loop
 element-copy-out-link-charge c = search needs
 
--- src/charges.rt:154:43
 mul-link-charge-2 : tie.Need-mul-link-charge-2 Inv-loop μ-loop
 mul-link-charge-2 c = search needs
 
--- src/charges.rt:154:43
 element-copy-out-link-charge-2 : tie.Need-element-copy-out-link-charge-2 Inv-loop μ-loop
 element-copy-out-link-charge-2 c = search needs
 
--- src/charges.rt:154:19
 link-charge-requires : tie.Need-link-charge-requires Inv-loop μ-loop
 link-charge-requires c κs =
     let low = c .before .before .before .before .pre .3 (c .before .before .before .loop .x) (omega arith) in
     (low .0, low .1, c .before .before .before .before .pre .1, c .before .before .before .before .pre .2)
 
--- src/charges.rt:154:9
 mul-link : tie.Need-mul-link Inv-loop μ-loop
 mul-link c = search needs
 
--- src/charges.rt:154:9
 array-write-link : tie.Need-array-write-link Inv-loop μ-loop
 array-write-link c = search needs
 
--- src/charges.rt:155:9
 add-x : tie.Need-add-x Inv-loop μ-loop
 add-x c = search needs
 
--- src/charges.rt:153:5
 loop-less : tie.Need-loop-less Inv-loop μ-loop
 loop-less c = search needs
 
--- src/charges.rt:153:5
 loop-again : tie.Need-loop-again Inv-loop μ-loop
 loop-again c =
     let a = c .before .before .before .before .before .args in
     let l = c .before .before .before .before .loop in
     (omega arith, simp length-set (l .inv .1), next-written (l .link) (l .x) (c .link-charge .result) (λ d. link-figure (a .k) (getD (a .leaving .now) d 0) (getD (a .entering .now) d 0)) (omega arith) (c .link-charge .ensures) (l .inv .2))
 
--- src/charges.rt:144:1
 returns : tie.Need-returns Inv-loop μ-loop
 returns c = λ x l. c .before .loop .inv .2 x (omega arith)
 

@@ -1,27 +1,20 @@
 -- `own_charge` meets its contract; the product is at most 10^9.
-use Prim.Native.Nat.{ℕ, zero, suc, _+_, _-_, _*_, _^_, _≤_, _<_}
+use Prim.Native.Nat.{_-_, _^_}
 use native.Mathlib.Omega.{arith}
-use mathlib.Core.Path.{_≡_, refl, sym, ap, _∙_, subst}
-use borrow.Author.Needs.{needs}
 use native.Mathlib.Nat.{mul-le-mul}
 use borrow.Author.Tests.{le-leb, lt-leb}
 use Rattle.subsets.specs.Costs.{provided}
 use Rattle.subsets.specs.Figures.{figure}
 use Rattle.planner.proofs.charges.own_charge.Statement.{statement}
 use Rattle.planner.proofs.charges.own_charge.Tie as tie
-use Rattle.planner.proofs.charges.own_charge.Reads as reads
-use Rattle.planner.proofs.charges.own_charge.Lts as lts
 
--- src/charges.rt:112:9
 returns : tie.Need-returns
 unfolding figure provided
 returns c = simp (lt-leb _ _ (c .if1 .taken))
 
--- src/charges.rt:114:5
 mul-result : tie.Need-mul-result
 mul-result c = record { fits = omega (arith, mul-le-mul (c .before .before .before .pre .0) (c .before .before .before .pre .1)) }
 
--- src/charges.rt:107:1
 returns-2 : tie.Need-returns-2
 unfolding figure provided
 returns-2 c = simp (le-leb _ _ (c .before .if1 .left))

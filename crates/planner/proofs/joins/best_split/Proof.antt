@@ -1,11 +1,9 @@
 -- `best_split` meets its contract: the loop makes the fold's steps, one subset at a time.
-use Prim.Native.Nat.{ℕ, suc, _+_, _-_, _≤_, _<_}
+use Prim.Native.Nat.{suc, _+_, _-_, _≤_, _<_}
 use native.Mathlib.Omega.{arith}
 use mathlib.Core.Path.{_≡_, refl, sym, ap, _∙_}
 use borrow.Author.Needs.{needs}
 use lib.Bits.{bitAnd, and-self, and-le-l, and-le-r}
-use lib.ListN.{length, getD}
-use Rattle.subsets.specs.declared.Weighed.{Weighed}
 use Rattle.subsets.specs.declared.Best.{Best}
 use Rattle.subsets.specs.Folds.{scan, best-split, after, tried}
 use Rattle.subsets.proofs.Sets.{Sub, sub-and}
@@ -13,11 +11,6 @@ use Rattle.subsets.proofs.Figures.{counted-le}
 use Rattle.subsets.proofs.Folds.{try-at, scan-at, scan-next, scan-end}
 use Rattle.planner.proofs.joins.best_split.Statement.{statement}
 use Rattle.planner.proofs.joins.best_split.Tie as tie
-use Rattle.planner.proofs.joins.best_split.Reads as reads
-use Rattle.planner.proofs.joins.best_split.Lts as lts
-use Rattle.planner.proofs.joins.better.Reads as better-reads
-use Rattle.subsets.proofs.next_subset.Reads as next-subset-reads
-use Rattle.subsets.proofs.weigh.Reads as weigh-reads
 
 abbrev Inv-loop : tie.InvT-loop
 Inv-loop row child link x best₀ a₀ best a = (a ≤ x) × Sub a x × (best .counted + a ≤ x) × (scan row child link x (suc a) best ≡ best-split row child link x)
@@ -25,57 +18,44 @@ Inv-loop row child link x best₀ a₀ best a = (a ≤ x) × Sub a x × (best .c
 abbrev μ-loop : tie.MeasureT-loop
 μ-loop row child link x best₀ a₀ best a = a
 
--- src/joins.rt:46:5
 loop-holds : tie.Need-loop-holds Inv-loop μ-loop
 loop-holds c = (omega arith, and-self _, omega arith, unfold best-split in refl)
 
--- src/joins.rt:47:20
 sub-rest : tie.Need-sub-rest Inv-loop μ-loop
 sub-rest c = search needs
 
--- src/joins.rt:48:40
 mul-weigh : tie.Need-mul-weigh Inv-loop μ-loop
 mul-weigh c = search needs
 
--- src/joins.rt:48:40
 shared-slice-read-weigh : tie.Need-shared-slice-read-weigh Inv-loop μ-loop
 shared-slice-read-weigh c = search needs
 
--- src/joins.rt:48:48
 mul-weigh-2 : tie.Need-mul-weigh-2 Inv-loop μ-loop
 mul-weigh-2 c = search needs
 
--- src/joins.rt:48:48
 element-copy-out-weigh : tie.Need-element-copy-out-weigh Inv-loop μ-loop
 element-copy-out-weigh c = search needs
 
--- src/joins.rt:48:61
 mul-weigh-3 : tie.Need-mul-weigh-3 Inv-loop μ-loop
 mul-weigh-3 c = search needs
 
--- src/joins.rt:48:61
 element-copy-out-weigh-2 : tie.Need-element-copy-out-weigh-2 Inv-loop μ-loop
 element-copy-out-weigh-2 c = search needs
 
--- src/joins.rt:48:13
 weigh-requires : tie.Need-weigh-requires Inv-loop μ-loop
 weigh-requires c κs = search needs
 
--- src/joins.rt:49:9
 better-requires : tie.Need-better-requires Inv-loop μ-loop
 better-requires c κs =
     let one : c .weigh .result .counted ≤ 1 = rw (c .weigh .ensures) (counted-le _ _ _ _) in
     omega arith
 
--- src/joins.rt:53:9
 next-subset-requires : tie.Need-next-subset-requires Inv-loop μ-loop
 next-subset-requires c κs = search needs
 
--- src/joins.rt:46:5
 loop-less : tie.Need-loop-less Inv-loop μ-loop
 loop-less c = omega (arith, c .next-subset .ensures, and-le-l (c .before .before .before .before .before .before .before .loop .a - 1) (c .before .before .before .before .before .before .before .before .before .args .x), c .before .if1 .left)
 
--- src/joins.rt:46:5
 loop-again : tie.Need-loop-again Inv-loop μ-loop
 loop-again c =
     let args = c .before .before .before .before .before .before .before .before .before .args in
@@ -98,7 +78,6 @@ loop-again c =
       rw next (sym (scan-next row child link x tried a (inv .1) pos)) ∙ ap (scan row child link x a) e ∙ sym (scan-at row child link x best a (inv .1)) ∙ inv .3,
     )
 
--- src/joins.rt:36:1
 returns : tie.Need-returns Inv-loop μ-loop
 returns c =
     let args = c .before .before .before .before .before .before .before .before .args in

@@ -3,8 +3,6 @@ use borrow.Author.Needs.{needs}
 use borrow.Author.Tests.{lt-ltb, le-ltb}
 use Rattle.planner.proofs.joins.better.Statement.{statement}
 use Rattle.planner.proofs.joins.better.Tie as tie
-use Rattle.planner.proofs.joins.better.Reads as reads
-use Rattle.planner.proofs.joins.better.Lts as lts
 
 add-counted : tie.Need-add-counted
 add-counted c = search needs

@@ -1,16 +1,12 @@
 -- `join` meets its contract, from the last set down.
-use Prim.Native.Nat.{ℕ, suc, _+_, _-_, _≤_, _<_}
+use Prim.Native.Nat.{ℕ, suc, _+_, _-_, _≤_}
 use native.Mathlib.Omega.{arith}
-use mathlib.Core.Path.{_≡_, ap, subst}
+use mathlib.Core.Path.{_≡_, subst}
 use borrow.Author.Needs.{needs}
-use lib.ListN.{length, set, length-set}
-use Rattle.subsets.specs.declared.Best.{Best}
-use Rattle.planner.proofs.Joining.{Partly, begin, step, all, counted-le, chosen-le, best-same}
+use lib.ListN.{length, set}
+use Rattle.planner.proofs.Joining.{Partly, begin, step, all, counted-le, chosen-le}
 use Rattle.planner.proofs.joins.join.Statement.{statement}
 use Rattle.planner.proofs.joins.join.Tie as tie
-use Rattle.planner.proofs.joins.join.Reads as reads
-use Rattle.planner.proofs.joins.join.Lts as lts
-use Rattle.planner.proofs.joins.best_split.Reads as best-split-reads
 
 abbrev Inv-loop : tie.InvT-loop
 Inv-loop row₀ choice₀ child link count₀ x₀ row choice count x = (x ≤ length row₀) × Partly row₀ child link x row choice count
@@ -18,27 +14,21 @@ Inv-loop row₀ choice₀ child link count₀ x₀ row choice count x = (x ≤ l
 abbrev μ-loop : tie.MeasureT-loop
 μ-loop row₀ choice₀ child link count₀ x₀ row choice count x = x
 
--- src/joins.rt:66:5
 loop-holds : tie.Need-loop-holds Inv-loop μ-loop
 loop-holds c = (omega arith, begin _ _ _ _ (search needs))
 
--- src/joins.rt:67:9
 sub-x : tie.Need-sub-x Inv-loop μ-loop
 sub-x c = search needs
 
--- src/joins.rt:68:13
 best-split-requires : tie.Need-best-split-requires Inv-loop μ-loop
 best-split-requires c κs = search needs
 
--- src/joins.rt:69:9
 mul-row : tie.Need-mul-row Inv-loop μ-loop
 mul-row c = search needs
 
--- src/joins.rt:69:9
 slice-write-row : tie.Need-slice-write-row Inv-loop μ-loop
 slice-write-row c = search needs
 
--- src/joins.rt:70:21
 cast-choice : tie.Need-cast-choice Inv-loop μ-loop
 cast-choice c =
     let a = c .before .before .before .before .before .before .before .args in
@@ -46,11 +36,9 @@ cast-choice c =
     rw (c .before .best-split .ensures) (chosen-le (c .before .before .before .before .loop .row) (a .child .now) (a .link .now) (c .before .before .before .before .loop .x - 1)) in
     omega arith
 
--- src/joins.rt:70:9
 mul-choice : tie.Need-mul-choice Inv-loop μ-loop
 mul-choice c = search needs
 
--- src/joins.rt:70:9
 slice-write-choice : tie.Need-slice-write-choice Inv-loop μ-loop
 slice-write-choice c = search needs
 
@@ -66,29 +54,23 @@ turn c =
     step (a .row .now) (a .child .now) (a .link .now) (l .x - 1) (l .row) (l .choice) (l .count) (c .before .before .best-split .result) (omega arith) (c .before .before .best-split .ensures)
     (subst (λ (n : ℕ). Partly (a .row .now) (a .child .now) (a .link .now) n (l .row) (l .choice) (l .count)) e (l .inv .1))
 
--- src/joins.rt:71:9
 add-count : tie.Need-add-count Inv-loop μ-loop
 add-count c =
     let a = c .before .before .before .before .before .before .before .before .args in
     omega (arith, turn c .counted, counted-le (a .row .now) (a .child .now) (a .link .now) (length (a .row .now)) (omega arith))
 
--- src/joins.rt:66:5
 loop-less : tie.Need-loop-less Inv-loop μ-loop
 loop-less c = search needs
 
--- src/joins.rt:66:5
 loop-again : tie.Need-loop-again Inv-loop μ-loop
 loop-again c = (omega arith, turn c)
 
--- src/joins.rt:60:1
 same-length : tie.Need-same-length Inv-loop μ-loop
 same-length c = search needs
 
--- src/joins.rt:60:1
 same-length-2 : tie.Need-same-length-2 Inv-loop μ-loop
 same-length-2 c = search needs
 
--- src/joins.rt:60:1
 returns : tie.Need-returns Inv-loop μ-loop
 returns c =
     let a = c .before .before .before .before .args in

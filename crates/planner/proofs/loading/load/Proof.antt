@@ -1,26 +1,16 @@
 -- `load` meets its contract: nothing, then the services, the cabinets and the streams are loaded.
-use Prim.Native.Nat.{ℕ, zero, suc, _+_, _-_, _*_, _^_, _≤_, _<_}
-use native.Mathlib.Omega.{arith}
-use mathlib.Core.Path.{_≡_, refl, sym, ap, _∙_, subst}
+use Prim.Native.Nat.{_-_}
 use borrow.Author.Needs.{needs}
 use Rattle.sheet.specs.Instance.{instance}
 use Rattle.sheet.proofs.Promises as promises
-use Rattle.planner.specs.Loaded.{no-cabinet, cabinet-of, Loading}
+use Rattle.planner.specs.Loaded.{no-cabinet, cabinet-of}
 use Rattle.planner.proofs.Columns.{column-none, loaded}
 use Rattle.planner.proofs.loading.load.Statement.{statement}
 use Rattle.planner.proofs.loading.load.Tie as tie
-use Rattle.planner.proofs.loading.load.Reads as reads
-use Rattle.planner.proofs.loading.load.Lts as lts
-use Rattle.planner.proofs.loading.counts.Reads as counts-reads
-use Rattle.planner.proofs.loading.with_cabinets.Reads as with-cabinets-reads
-use Rattle.planner.proofs.loading.with_services.Reads as with-services-reads
-use Rattle.planner.proofs.loading.with_streams.Reads as with-streams-reads
 
--- src/loading.rt:147:9
 counts-requires : tie.Need-counts-requires
 counts-requires c κs = search needs
 
--- src/loading.rt:148:9
 with-services-requires : tie.Need-with-services-requires
 with-services-requires c κs =
     let a = c .before .before .args in
@@ -39,15 +29,12 @@ with-services-requires c κs =
       }),
     )
 
--- src/loading.rt:149:9
 with-cabinets-requires : tie.Need-with-cabinets-requires
 with-cabinets-requires c κs = search needs
 
--- src/loading.rt:150:5
 with-streams-requires : tie.Need-with-streams-requires
 with-streams-requires c κs = search needs
 
--- src/loading.rt:143:1
 returns : tie.Need-returns
 returns c = loaded _ _ (c .with-streams .ensures)
 

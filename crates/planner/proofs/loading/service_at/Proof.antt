@@ -2,35 +2,26 @@
 use Rattle.sheet.specs.declared.Service.{Service}
 use Rattle.sheet.specs.declared.ServiceRecord.{ServiceRecord}
 use Rattle.sheet.specs.declared.ServiceRecord.the-variants.{Given}
-use Prim.Native.Nat.{ℕ, zero, suc, _+_, _-_, _*_, _^_, _≤_, _<_}
+use Prim.Native.Nat.{ℕ, _-_}
 use native.Mathlib.Omega.{arith}
-use mathlib.Core.Path.{_≡_, refl, sym, ap, _∙_, subst}
+use mathlib.Core.Path.{_≡_, ap, _∙_}
 use borrow.Author.Needs.{needs}
-use mathlib.Core.List.{List}
-use Rattle.sheet.specs.Instance.{instance}
 use Rattle.sheet.proofs.Promises.{service-given}
 use Rattle.planner.proofs.loading.service_at.Statement.{statement}
 use Rattle.planner.proofs.loading.service_at.Tie as tie
-use Rattle.planner.proofs.loading.service_at.Reads as reads
-use Rattle.planner.proofs.loading.service_at.Lts as lts
-use Rattle.sheet.proofs.Sheet.service.Reads as service-reads
 
--- src/loading.rt:22:9
 service-requires : tie.Need-service-requires
 service-requires c κs = search needs
 
--- src/loading.rt:23:30
 enum-known-record : tie.Need-enum-known-record
 enum-known-record c = search needs
 
--- src/loading.rt:24:9
 enum-told : tie.Need-enum-told
 enum-told c = search needs
 
 same-demand : (o : ServiceRecord) (k : Service) (n : ℕ) → o ≡ Given k → o ≡ Given (record { demand = n }) → k .demand ≡ n
 same-demand o k n e f = ap (λ (k : Service). k .demand) (let z : k ≡ record { demand = n } = cc in z)
 
--- src/loading.rt:24:9
 returns : tie.Need-returns
 returns c =
     let a = c .before .before .before .before .args in
@@ -40,7 +31,6 @@ returns c =
     let t = c .enum-told .given in
     absurd (let z : _≡_ {A = ℕ} 0 1 = cc in omega arith)
 
--- src/loading.rt:18:1
 returns-2 : tie.Need-returns-2
 returns-2 c =
     let a = c .before .before .before .before .before .args in

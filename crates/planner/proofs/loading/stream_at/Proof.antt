@@ -1,30 +1,21 @@
 -- `stream_at` meets its contract: an accepted sheet gives every record that it has.
-use Prim.Native.Nat.{ℕ, zero, suc, _+_, _-_, _*_, _^_, _≤_, _<_}
+use Prim.Native.Nat.{ℕ, _-_}
 use native.Mathlib.Omega.{arith}
-use mathlib.Core.Path.{_≡_, refl, sym, ap, _∙_, subst}
+use mathlib.Core.Path.{_≡_}
 use borrow.Author.Needs.{needs}
-use mathlib.Core.List.{List}
-use Rattle.sheet.specs.Instance.{instance}
 use Rattle.sheet.proofs.Promises.{stream-given}
 use Rattle.planner.proofs.loading.stream_at.Statement.{statement}
 use Rattle.planner.proofs.loading.stream_at.Tie as tie
-use Rattle.planner.proofs.loading.stream_at.Reads as reads
-use Rattle.planner.proofs.loading.stream_at.Lts as lts
-use Rattle.sheet.proofs.Sheet.stream.Reads as stream-reads
 
--- src/loading.rt:58:9
 stream-requires : tie.Need-stream-requires
 stream-requires c κs = search needs
 
--- src/loading.rt:59:29
 enum-known-record : tie.Need-enum-known-record
 enum-known-record c = search needs
 
--- src/loading.rt:60:9
 enum-told : tie.Need-enum-told
 enum-told c = search needs
 
--- src/loading.rt:60:9
 returns : tie.Need-returns
 returns c =
     let a = c .before .before .before .before .args in
@@ -34,7 +25,6 @@ returns c =
     let t = c .enum-told .given in
     absurd (let z : _≡_ {A = ℕ} 0 1 = cc in omega arith)
 
--- src/loading.rt:54:1
 returns-2 : tie.Need-returns-2
 returns-2 c =
     let a = c .before .before .before .before .before .args in

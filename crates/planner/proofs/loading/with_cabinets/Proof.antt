@@ -1,19 +1,14 @@
 -- `with_cabinets` meets its contract, place by place.
-use Prim.Native.Nat.{ℕ, zero, suc, _+_, _-_, _*_, _^_, _≤_, _<_}
+use Prim.Native.Nat.{ℕ, _-_, _≤_, _<_}
 use native.Mathlib.Omega.{arith}
-use mathlib.Core.Path.{_≡_, refl, sym, ap, _∙_, subst}
+use mathlib.Core.Path.{_≡_, subst}
 use borrow.Author.Needs.{needs}
-use mathlib.Core.List.{List}
-use lib.ListN.{length, getD, set}
-use Rattle.sheet.specs.Instance.{Instance, WellFormed, instance}
+use Rattle.sheet.specs.Instance.{instance}
 use Rattle.sheet.proofs.Promises.{well-formed}
-use Rattle.planner.specs.Loaded.{no-cabinet, cabinet-of, Column, Loading}
+use Rattle.planner.specs.Loaded.{no-cabinet, cabinet-of, Loading}
 use Rattle.planner.proofs.Columns.{column-next}
 use Rattle.planner.proofs.loading.with_cabinets.Statement.{statement}
 use Rattle.planner.proofs.loading.with_cabinets.Tie as tie
-use Rattle.planner.proofs.loading.with_cabinets.Reads as reads
-use Rattle.planner.proofs.loading.with_cabinets.Lts as lts
-use Rattle.planner.proofs.loading.cabinet_at.Reads as cabinet-at-reads
 
 abbrev Inv-loop : tie.InvT-loop
 Inv-loop sheet bytes next₀ n c₀ next c = Loading (instance bytes) (instance bytes .r) c 0 next × (c ≤ n)
@@ -21,11 +16,9 @@ Inv-loop sheet bytes next₀ n c₀ next c = Loading (instance bytes) (instance 
 abbrev μ-loop : tie.MeasureT-loop
 μ-loop sheet bytes next₀ n c₀ next c = n - c
 
--- src/loading.rt:118:5
 loop-holds : tie.Need-loop-holds Inv-loop μ-loop
 loop-holds c = (c .before .pre .1, omega arith)
 
--- src/loading.rt:119:27
 cabinet-at-requires : tie.Need-cabinet-at-requires Inv-loop μ-loop
 cabinet-at-requires c κs = (c .before .before .before .pre .0, omega (arith, c .before .loop .inv .0 .cabinets, c .before .before .before .pre .1 .cabinets))
 
@@ -34,23 +27,18 @@ place c =
     let W = well-formed (c .before .before .before .before .args .bytes .now) (c .before .before .before .before .args .sheet) (c .before .before .before .before .pre .0) in
     omega (arith, W .cabinets, c .before .before .before .before .pre .1 .cabinets)
 
--- src/loading.rt:119:9
 mul-t9 : tie.Need-mul-t9 Inv-loop μ-loop
 mul-t9 c = omega (arith, place c)
 
--- src/loading.rt:119:9
 element-set-from-next : tie.Need-element-set-from-next Inv-loop μ-loop
 element-set-from-next c = place c
 
--- src/loading.rt:120:9
 add-c : tie.Need-add-c Inv-loop μ-loop
 add-c c = search needs
 
--- src/loading.rt:118:5
 loop-less : tie.Need-loop-less Inv-loop μ-loop
 loop-less c = search needs
 
--- src/loading.rt:118:5
 loop-again : tie.Need-loop-again Inv-loop μ-loop
 loop-again c =
     let a = c .before .before .before .before .args in
@@ -71,7 +59,6 @@ loop-again c =
       omega arith,
     )
 
--- src/loading.rt:111:1
 returns : tie.Need-returns Inv-loop μ-loop
 returns c =
     let I = instance (c .before .before .before .args .bytes .now) in

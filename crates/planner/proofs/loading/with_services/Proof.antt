@@ -1,19 +1,14 @@
 -- `with_services` meets its contract, place by place.
-use Prim.Native.Nat.{ℕ, zero, suc, _+_, _-_, _*_, _^_, _≤_, _<_}
+use Prim.Native.Nat.{ℕ, _-_, _≤_, _<_}
 use native.Mathlib.Omega.{arith}
-use mathlib.Core.Path.{_≡_, refl, sym, ap, _∙_, subst}
+use mathlib.Core.Path.{_≡_, subst}
 use borrow.Author.Needs.{needs}
-use mathlib.Core.List.{List}
-use lib.ListN.{length, getD, set}
-use Rattle.sheet.specs.Instance.{Instance, WellFormed, instance}
+use Rattle.sheet.specs.Instance.{instance}
 use Rattle.sheet.proofs.Promises.{well-formed}
-use Rattle.planner.specs.Loaded.{no-cabinet, cabinet-of, Column, Loading}
+use Rattle.planner.specs.Loaded.{Loading}
 use Rattle.planner.proofs.Columns.{column-next}
 use Rattle.planner.proofs.loading.with_services.Statement.{statement}
 use Rattle.planner.proofs.loading.with_services.Tie as tie
-use Rattle.planner.proofs.loading.with_services.Reads as reads
-use Rattle.planner.proofs.loading.with_services.Lts as lts
-use Rattle.planner.proofs.loading.service_at.Reads as service-at-reads
 
 abbrev Inv-loop : tie.InvT-loop
 Inv-loop sheet bytes next₀ n i₀ next i = Loading (instance bytes) i 0 0 next × (i ≤ n)
@@ -21,11 +16,9 @@ Inv-loop sheet bytes next₀ n i₀ next i = Loading (instance bytes) i 0 0 next
 abbrev μ-loop : tie.MeasureT-loop
 μ-loop sheet bytes next₀ n i₀ next i = n - i
 
--- src/loading.rt:103:5
 loop-holds : tie.Need-loop-holds Inv-loop μ-loop
 loop-holds c = (c .before .pre .1, omega arith)
 
--- src/loading.rt:104:13
 service-at-requires : tie.Need-service-at-requires Inv-loop μ-loop
 service-at-requires c κs = (c .before .before .before .pre .0, omega (arith, c .before .loop .inv .0 .services, c .before .before .before .pre .1 .services))
 
@@ -34,23 +27,18 @@ place c =
     let W = well-formed (c .before .before .before .before .args .bytes .now) (c .before .before .before .before .args .sheet) (c .before .before .before .before .pre .0) in
     omega (arith, W .services, c .before .before .before .before .pre .1 .services)
 
--- src/loading.rt:105:9
 mul-next : tie.Need-mul-next Inv-loop μ-loop
 mul-next c = omega (arith, place c)
 
--- src/loading.rt:105:9
 element-write-next : tie.Need-element-write-next Inv-loop μ-loop
 element-write-next c = place c
 
--- src/loading.rt:106:9
 add-i : tie.Need-add-i Inv-loop μ-loop
 add-i c = search needs
 
--- src/loading.rt:103:5
 loop-less : tie.Need-loop-less Inv-loop μ-loop
 loop-less c = search needs
 
--- src/loading.rt:103:5
 loop-again : tie.Need-loop-again Inv-loop μ-loop
 loop-again c =
     let a = c .before .before .before .before .args in
@@ -71,7 +59,6 @@ loop-again c =
       omega arith,
     )
 
--- src/loading.rt:96:1
 returns : tie.Need-returns Inv-loop μ-loop
 returns c =
     let I = instance (c .before .before .before .args .bytes .now) in

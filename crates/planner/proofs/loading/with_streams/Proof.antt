@@ -1,20 +1,15 @@
 -- `with_streams` meets its contract, place by place.
 use Rattle.sheet.specs.declared.Stream.{Stream}
-use Prim.Native.Nat.{ℕ, zero, suc, _+_, _-_, _*_, _^_, _≤_, _<_}
+use Prim.Native.Nat.{ℕ, _-_, _≤_, _<_}
 use native.Mathlib.Omega.{arith}
-use mathlib.Core.Path.{_≡_, refl, sym, ap, _∙_, subst}
+use mathlib.Core.Path.{_≡_, ap, subst}
 use borrow.Author.Needs.{needs}
-use mathlib.Core.List.{List}
-use lib.ListN.{length, getD, set}
-use Rattle.sheet.specs.Instance.{Instance, WellFormed, instance}
+use Rattle.sheet.specs.Instance.{instance}
 use Rattle.sheet.proofs.Promises.{well-formed}
-use Rattle.planner.specs.Loaded.{no-cabinet, cabinet-of, Column, Loading}
+use Rattle.planner.specs.Loaded.{Loading}
 use Rattle.planner.proofs.Columns.{column-next}
 use Rattle.planner.proofs.loading.with_streams.Statement.{statement}
 use Rattle.planner.proofs.loading.with_streams.Tie as tie
-use Rattle.planner.proofs.loading.with_streams.Reads as reads
-use Rattle.planner.proofs.loading.with_streams.Lts as lts
-use Rattle.planner.proofs.loading.stream_at.Reads as stream-at-reads
 
 abbrev Inv-loop : tie.InvT-loop
 Inv-loop sheet bytes next₀ n j₀ next j = Loading (instance bytes) (instance bytes .r) (instance bytes .s) j next × (j ≤ n)
@@ -22,11 +17,9 @@ Inv-loop sheet bytes next₀ n j₀ next j = Loading (instance bytes) (instance 
 abbrev μ-loop : tie.MeasureT-loop
 μ-loop sheet bytes next₀ n j₀ next j = n - j
 
--- src/loading.rt:132:5
 loop-holds : tie.Need-loop-holds Inv-loop μ-loop
 loop-holds c = (c .before .pre .1, omega arith)
 
--- src/loading.rt:133:13
 stream-at-requires : tie.Need-stream-at-requires Inv-loop μ-loop
 stream-at-requires c κs = (c .before .before .before .pre .0, omega (arith, c .before .loop .inv .0 .streams, c .before .before .before .pre .1 .streams))
 
@@ -35,39 +28,30 @@ place c =
     let W = well-formed (c .before .before .before .before .args .bytes .now) (c .before .before .before .before .args .sheet) (c .before .before .before .before .pre .0) in
     omega (arith, W .streams, c .before .before .before .before .pre .1 .streams)
 
--- src/loading.rt:134:9
 mul-next : tie.Need-mul-next Inv-loop μ-loop
 mul-next c = omega (arith, place c)
 
--- src/loading.rt:134:9
 element-write-next : tie.Need-element-write-next Inv-loop μ-loop
 element-write-next c = place c
 
--- src/loading.rt:135:9
 mul-next-2 : tie.Need-mul-next-2 Inv-loop μ-loop
 mul-next-2 c = omega (arith, place c)
 
--- src/loading.rt:135:9
 element-write-next-2 : tie.Need-element-write-next-2 Inv-loop μ-loop
 element-write-next-2 c = place c
 
--- src/loading.rt:136:9
 mul-next-3 : tie.Need-mul-next-3 Inv-loop μ-loop
 mul-next-3 c = omega (arith, place c)
 
--- src/loading.rt:136:9
 element-write-next-3 : tie.Need-element-write-next-3 Inv-loop μ-loop
 element-write-next-3 c = place c
 
--- src/loading.rt:137:9
 add-j : tie.Need-add-j Inv-loop μ-loop
 add-j c = search needs
 
--- src/loading.rt:132:5
 loop-less : tie.Need-loop-less Inv-loop μ-loop
 loop-less c = search needs
 
--- src/loading.rt:132:5
 loop-again : tie.Need-loop-again Inv-loop μ-loop
 loop-again c =
     let a = c .before .before .before .before .args in
@@ -88,7 +72,6 @@ loop-again c =
       omega arith,
     )
 
--- src/loading.rt:125:1
 returns : tie.Need-returns Inv-loop μ-loop
 returns c =
     let I = instance (c .before .before .before .args .bytes .now) in

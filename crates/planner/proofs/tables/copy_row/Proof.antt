@@ -1,14 +1,12 @@
 -- `copy_row` meets its contract, place by place.
-use Prim.Native.Nat.{ℕ, zero, suc, _+_, _-_, _*_, _^_, _≤_, _<_}
+use Prim.Native.Nat.{ℕ, _-_, _≤_, _<_}
 use native.Mathlib.Omega.{arith}
-use mathlib.Core.Path.{_≡_, refl, sym, ap, _∙_, subst}
+use mathlib.Core.Path.{_≡_, refl}
 use borrow.Author.Needs.{needs}
-use lib.ListN.{length, getD, set, length-set}
+use lib.ListN.{length, getD, length-set}
 use Rattle.planner.proofs.Written.{next-written}
 use Rattle.planner.proofs.tables.copy_row.Statement.{statement}
 use Rattle.planner.proofs.tables.copy_row.Tie as tie
-use Rattle.planner.proofs.tables.copy_row.Reads as reads
-use Rattle.planner.proofs.tables.copy_row.Lts as lts
 
 abbrev Inv-loop : tie.InvT-loop
 Inv-loop row copy₀ x₀ copy x = (x ≤ length row) × (length copy ≡ 1024) × ((d : ℕ) → d < x → getD copy d 0 ≡ getD row d 0)
@@ -16,42 +14,33 @@ Inv-loop row copy₀ x₀ copy x = (x ≤ length row) × (length copy ≡ 1024) 
 abbrev μ-loop : tie.MeasureT-loop
 μ-loop row copy₀ x₀ copy x = length row - x
 
--- src/tables.rt:24:5
 loop-holds : tie.Need-loop-holds Inv-loop μ-loop
 loop-holds c = (search needs, refl, λ d l. absurd (omega arith))
 
--- src/tables.rt:25:19
 mul-copy : tie.Need-mul-copy Inv-loop μ-loop
 mul-copy c = search needs
 
--- src/tables.rt:25:19
 shared-slice-read-copy : tie.Need-shared-slice-read-copy Inv-loop μ-loop
 shared-slice-read-copy c = search needs
 
--- src/tables.rt:25:9
 mul-copy-2 : tie.Need-mul-copy-2 Inv-loop μ-loop
 mul-copy-2 c = search needs
 
--- src/tables.rt:25:9
 array-write-copy : tie.Need-array-write-copy Inv-loop μ-loop
 array-write-copy c = search needs
 
--- src/tables.rt:26:9
 add-x : tie.Need-add-x Inv-loop μ-loop
 add-x c = search needs
 
--- src/tables.rt:24:5
 loop-less : tie.Need-loop-less Inv-loop μ-loop
 loop-less c = search needs
 
--- src/tables.rt:24:5
 loop-again : tie.Need-loop-again Inv-loop μ-loop
 loop-again c =
     let a = c .before .before .before .args in
     let l = c .before .before .loop in
     (omega arith, simp length-set (l .inv .1), next-written (l .copy) (l .x) _ (λ d. getD (a .row .now) d 0) (omega arith) refl (l .inv .2))
 
--- src/tables.rt:18:1
 returns : tie.Need-returns Inv-loop μ-loop
 returns c = λ x l. c .before .loop .inv .2 x (omega arith)
 

@@ -2,56 +2,40 @@
 use lib.Seq.{length-take-le, length-front}
 use Rattle.planner.proofs.Charging.{summed}
 use Rattle.planner.proofs.Parted.{Room, room, zeros-first}
-use Prim.Native.Nat.{ℕ, zero, suc, _+_, _-_, _*_, _^_, _≤_, _<_}
+use Prim.Native.Nat.{_-_, _^_}
 use native.Mathlib.Omega.{arith}
-use mathlib.Core.Path.{_≡_, refl, sym, ap, _∙_, subst}
+use mathlib.Core.Path.{_≡_, sym, _∙_}
 use borrow.Author.Needs.{needs}
-use mathlib.Core.List.{List}
-use lib.ListN.{length, getD, take, drop}
-use Rattle.sheet.specs.Instance.{Instance, WellFormed}
+use lib.ListN.{length, take}
 use Rattle.planner.specs.Loaded.{held}
-use Rattle.planner.specs.Tables.{entry, Ready, Summed, Filled}
 use Rattle.planner.proofs.tables.fill.Statement.{statement}
 use Rattle.planner.proofs.tables.fill.Tie as tie
-use Rattle.planner.proofs.tables.fill.Reads as reads
-use Rattle.planner.proofs.tables.fill.Lts as lts
-use Rattle.planner.proofs.charges.demand_sums.Reads as demand-sums-reads
-use Rattle.planner.proofs.charges.flow_sums.Reads as flow-sums-reads
-use Rattle.planner.proofs.tables.clear_choices.Reads as clear-choices-reads
-use Rattle.planner.proofs.tables.fill_rows.Reads as fill-rows-reads
 
 -- the first row lies within both tables
 space : (c : tie.Start) → Room (held (c .args .t3)) (c .args .size) (c .args .costs .now) (c .args .choices .now) 0
 space c = room _ _ _ _ (c .pre) 0 (omega (arith, c .pre .well-formed .some-cabinet))
 
--- src/tables.rt:166:19
 demand-sums-requires : tie.Need-demand-sums-requires
 unfolding held
 demand-sums-requires c κs = let W = c .before .before .before .before .pre .well-formed in (space (c .before .before .before .before) .row, W .services, W .demands)
 
--- src/tables.rt:167:19
 flow-sums-requires : tie.Need-flow-sums-requires
 unfolding held
 flow-sums-requires c κs = let W = c .before .before .before .before .before .before .before .before .before .pre .well-formed in (space (c .before .before .before .before .before .before .before .before .before) .row, W .streams, W .loads)
 
--- src/tables.rt:168:20
 flow-sums-requires-2 : tie.Need-flow-sums-requires-2
 unfolding held
 flow-sums-requires-2 c κs = let W = c .before .before .before .before .before .before .before .before .before .before .before .before .before .before .pre .well-formed in (space (c .before .before .before .before .before .before .before .before .before .before .before .before .before .before) .row, W .streams, W .loads)
 
--- src/tables.rt:169:19
 slice-relend-prefix-clear-choices : tie.Need-slice-relend-prefix-clear-choices
 slice-relend-prefix-clear-choices c = omega (arith, space (c .before .before .before .before .before .before .before .before .before .before .before .before .before .before .before) .row-choices)
 
--- src/tables.rt:169:19
 slice-aggregate-clear-choices : tie.Need-slice-aggregate-clear-choices
 slice-aggregate-clear-choices c = sym (length-take-le _ _ (omega (arith, space (c .before .before .before .before .before .before .before .before .before .before .before .before .before .before .before .before) .row-choices)))
 
--- src/tables.rt:169:5
 clear-choices-requires : tie.Need-clear-choices-requires
 clear-choices-requires c κs = search needs
 
--- src/tables.rt:170:5
 fill-rows-requires : tie.Need-fill-rows-requires
 fill-rows-requires c κs =
     let a = c .before .before .before .before .before .before .before .before .before .before .before .before .before .before .before .before .before .before .before .before .before .before .before .before .args in
@@ -71,15 +55,12 @@ fill-rows-requires c κs =
       ),
     )
 
--- src/tables.rt:162:1
 same-length : tie.Need-same-length
 same-length c = search needs
 
--- src/tables.rt:162:1
 same-length-2 : tie.Need-same-length-2
 same-length-2 c = search needs
 
--- src/tables.rt:162:1
 returns : tie.Need-returns
 returns c = c .before .before .before .before .fill-rows .ensures
 

@@ -1,19 +1,13 @@
 -- `fill_rows` meets its contract, row by row from the last.
-use Prim.Native.Nat.{ℕ, zero, suc, _+_, _-_, _*_, _^_, _≤_, _<_}
+use Prim.Native.Nat.{ℕ, suc, _+_, _-_}
 use native.Mathlib.Omega.{arith}
-use mathlib.Core.Path.{_≡_, refl, sym, ap, _∙_, subst}
+use mathlib.Core.Path.{_≡_, refl, _∙_, subst}
 use borrow.Author.Needs.{needs}
-use mathlib.Core.List.{List}
-use lib.ListN.{length, getD}
-use Rattle.sheet.specs.Instance.{Instance, WellFormed}
+use lib.ListN.{length}
 use Rattle.planner.specs.Loaded.{held}
-use Rattle.planner.specs.Tables.{entry, Ready, Summed, Rebuilt, Filled}
-use Rattle.planner.proofs.Filling.{joins-below, From, from-start, from-next, from-all, joins-small}
+use Rattle.planner.proofs.Filling.{From, from-start, from-next, from-all, joins-small}
 use Rattle.planner.proofs.tables.fill_rows.Statement.{statement}
 use Rattle.planner.proofs.tables.fill_rows.Tie as tie
-use Rattle.planner.proofs.tables.fill_rows.Reads as reads
-use Rattle.planner.proofs.tables.fill_rows.Lts as lts
-use Rattle.planner.proofs.tables.rebuild.Reads as rebuild-reads
 
 abbrev Inv-loop : tie.InvT-loop
 Inv-loop costs₀ choices₀ records demands leaving entering size count₀ p₀ costs choices count p = (length costs ≡ length costs₀) × (length choices ≡ length choices₀) × From (held records) p costs choices count
@@ -21,16 +15,13 @@ Inv-loop costs₀ choices₀ records demands leaving entering size count₀ p₀
 abbrev μ-loop : tie.MeasureT-loop
 μ-loop costs₀ choices₀ records demands leaving entering size count₀ p₀ costs choices count p = p
 
--- src/tables.rt:154:5
 loop-holds : tie.Need-loop-holds Inv-loop μ-loop
 unfolding held
 loop-holds c = (refl, refl, from-start (held (c .before .before .args .records)) (c .before .before .pre .0 .well-formed) _ _ (c .before .before .pre .1 .1))
 
--- src/tables.rt:155:9
 sub-p : tie.Need-sub-p Inv-loop μ-loop
 sub-p c = search needs
 
--- src/tables.rt:156:18
 rebuild-requires : tie.Need-rebuild-requires Inv-loop μ-loop
 rebuild-requires c κs =
     let P = c .before .before .before .before .before .before .pre in
@@ -49,31 +40,25 @@ turn c =
     from-next I (c .before .before .before .before .before .before .before .before .before .before .before .pre .0 .well-formed) (l .p - 1) (l .costs) (l .choices) (l .count) (subst (λ (n : ℕ). From I n (l .costs) (l .choices) (l .count)) e (l .inv .2))
     (c .before .before .before .before .rebuild .last .0) (c .before .before .before .before .rebuild .last .1 .0) (c .before .before .before .before .rebuild .result) (c .before .before .before .before .rebuild .ensures)
 
--- src/tables.rt:156:9
 add-count : tie.Need-add-count Inv-loop μ-loop
 add-count c =
     let a = c .before .before .before .before .before .before .before .before .before .before .before .args in
     omega (arith, turn c .count, joins-small (held (a .records)) (c .before .before .before .before .before .before .before .before .before .before .before .pre .0 .well-formed))
 
--- src/tables.rt:154:5
 loop-less : tie.Need-loop-less Inv-loop μ-loop
 loop-less c = search needs
 
--- src/tables.rt:154:5
 loop-again : tie.Need-loop-again Inv-loop μ-loop
 loop-again c =
     let l = c .before .before .before .before .before .before .before .before .loop in
     (c .before .before .before .before .rebuild .kept .0 ∙ l .inv .0, c .before .before .before .before .rebuild .kept .1 .0 ∙ l .inv .1, turn c)
 
--- src/tables.rt:138:1
 same-length : tie.Need-same-length Inv-loop μ-loop
 same-length c = c .before .loop .inv .0
 
--- src/tables.rt:138:1
 same-length-2 : tie.Need-same-length-2 Inv-loop μ-loop
 same-length-2 c = c .before .loop .inv .1
 
--- src/tables.rt:138:1
 returns : tie.Need-returns Inv-loop μ-loop
 returns c =
     let I = held (c .before .before .before .before .args .records) in

@@ -1,30 +1,19 @@
 -- `join_child` meets its contract: the rows lent hold the figures of the rows, so that the join makes the next ones.
 use borrow.Rule.Slice.PartMut.{putMid}
-use Prim.Native.Nat.{ℕ, zero, suc, _+_, _-_, _*_, _^_, _≤_, _<_}
+use Prim.Native.Nat.{ℕ, _+_, _-_, _*_, _^_, _≤_, _<_}
 use native.Mathlib.Omega.{arith}
 use mathlib.Core.Path.{_≡_, refl, sym, ap, _∙_, subst}
 use borrow.Author.Needs.{needs}
-use native.Mathlib.Nat.{mul-le-mul}
-use mathlib.Core.Bool.{true}
-use mathlib.Core.List.{List}
-use lib.ListN.{length, getD, take, drop}
-use Rattle.subsets.specs.Figures.{figure}
-use Rattle.subsets.specs.Rows.{child, row-at}
-use Rattle.subsets.specs.Folds.{Holds}
+use lib.ListN.{length, take, drop}
 use Rattle.embedding.specs.Charge.{net}
 use Rattle.planner.specs.Loaded.{held}
-use Rattle.planner.specs.Tables.{entry, cost-entry, Ready, Summed, JoinedChild}
+use Rattle.planner.specs.Tables.{entry, cost-entry, JoinedChild}
 use Rattle.planner.proofs.Children.{child-above}
 use Rattle.planner.proofs.Charging.{falls, flows-small}
 use Rattle.planner.proofs.Parted.{Room, room, row-length, row-entry}
 use Rattle.planner.proofs.Joinable.{link-holds, joined-child}
 use Rattle.planner.proofs.tables.join_child.Statement.{statement}
 use Rattle.planner.proofs.tables.join_child.Tie as tie
-use Rattle.planner.proofs.tables.join_child.Reads as reads
-use Rattle.planner.proofs.tables.join_child.Lts as lts
-use Rattle.planner.proofs.charges.link_row.Reads as link-row-reads
-use Rattle.planner.proofs.joins.join.Reads as join-reads
-use Rattle.planner.proofs.tables.copy_row.Reads as copy-row-reads
 
 -- the rows of p and of c lie within both tables
 above : (c : tie.Start) → c .args .p < c .args .c
@@ -37,53 +26,41 @@ rooms c =
     let l = c .pre .1 .1 .0 .0 in
     (room _ _ _ _ R (c .args .p) (omega (arith, above c, l)), room _ _ _ _ R (c .args .c) l)
 
--- src/tables.rt:71:14
 mul-at : tie.Need-mul-at
 mul-at c = omega (arith, rooms (c .before .before) .0, rooms (c .before .before) .1)
 
--- src/tables.rt:72:15
 add-end : tie.Need-add-end
 add-end c = omega (arith, rooms (c .before .before) .0, rooms (c .before .before) .1)
 
--- src/tables.rt:73:17
 mul-below : tie.Need-mul-below
 mul-below c = omega (arith, rooms (c .before .before) .0, rooms (c .before .before) .1)
 
--- src/tables.rt:74:21
 add-below-end : tie.Need-add-below-end
 add-below-end c = omega (arith, rooms (c .before .before) .0, rooms (c .before .before) .1)
 
--- src/tables.rt:75:26
 mul-copy-row : tie.Need-mul-copy-row
 mul-copy-row c = omega (arith, rooms (c .before .before) .0, rooms (c .before .before) .1)
 
--- src/tables.rt:75:26
 sub-copy-row : tie.Need-sub-copy-row
 sub-copy-row c = search needs
 
--- src/tables.rt:75:26
 part-copy-row-start : tie.Need-part-copy-row-start
 part-copy-row-start c = search needs
 
--- src/tables.rt:75:26
 part-copy-row-end : tie.Need-part-copy-row-end
 part-copy-row-end c = omega (arith, rooms (c .before .before .before) .0, rooms (c .before .before .before) .1)
 
--- src/tables.rt:75:17
 copy-row-requires : tie.Need-copy-row-requires
 copy-row-requires c κs =
     let a = c .before .before .before .before .args in
     omega (arith, row-length (a .size) (a .c) (a .costs .now) (rooms (c .before .before .before .before) .1 .row-costs), rooms (c .before .before .before .before) .1 .row)
 
--- src/tables.rt:76:13
 mul-k : tie.Need-mul-k
 mul-k c = search needs
 
--- src/tables.rt:76:13
 element-copy-out-k : tie.Need-element-copy-out-k
 element-copy-out-k c = search needs
 
--- src/tables.rt:77:16
 link-row-requires : tie.Need-link-row-requires
 unfolding held
 link-row-requires c κs =
@@ -92,39 +69,30 @@ link-row-requires c κs =
     let S = c .before .before .before .before .before .before .pre .1 .0 in
     (rooms (c .before .before .before .before .before .before) .1 .row, W .up-prices (a .c), W .down-prices (a .c), λ x l. flows-small (held (a .t3)) W (S .0) (a .leaving .now) (a .entering .now) (S .1) x (omega (arith, c .before .before .before .before .before .before .pre .0 .row-size)))
 
--- src/tables.rt:78:10
 mul-join : tie.Need-mul-join
 mul-join c = omega (arith, rooms (c .before .before .before .before .before .before .before) .0, rooms (c .before .before .before .before .before .before .before) .1)
 
--- src/tables.rt:78:10
 sub-join : tie.Need-sub-join
 sub-join c = search needs
 
--- src/tables.rt:78:10
 part-join-start : tie.Need-part-join-start
 part-join-start c = search needs
 
--- src/tables.rt:78:10
 part-join-end : tie.Need-part-join-end
 part-join-end c = omega (arith, rooms (c .before .before .before .before .before .before .before) .0, rooms (c .before .before .before .before .before .before .before) .1)
 
--- src/tables.rt:78:31
 mul-join-2 : tie.Need-mul-join-2
 mul-join-2 c = omega (arith, rooms (c .before .before .before .before .before .before .before .before) .0, rooms (c .before .before .before .before .before .before .before .before) .1)
 
--- src/tables.rt:78:31
 sub-join-2 : tie.Need-sub-join-2
 sub-join-2 c = search needs
 
--- src/tables.rt:78:31
 part-join-start-2 : tie.Need-part-join-start-2
 part-join-start-2 c = search needs
 
--- src/tables.rt:78:31
 part-join-end-2 : tie.Need-part-join-end-2
 part-join-end-2 c = omega (arith, rooms (c .before .before .before .before .before .before .before .before) .0, rooms (c .before .before .before .before .before .before .before .before) .1)
 
--- src/tables.rt:78:5
 join-requires : tie.Need-join-requires
 join-requires c κs =
     let a = c .before .before .before .before .before .before .before .before .before .before .before .args in
@@ -132,15 +100,12 @@ join-requires c κs =
     let e = row-length (a .size) (a .p) (a .costs .now) (M .0 .row-costs) in
     (omega (arith, e, M .0 .row), row-length (a .size) (a .c) (a .choices .now) (M .1 .row-choices) ∙ sym e)
 
--- src/tables.rt:51:1
 same-length : tie.Need-same-length
 same-length c = search needs
 
--- src/tables.rt:51:1
 same-length-2 : tie.Need-same-length-2
 same-length-2 c = search needs
 
--- src/tables.rt:51:1
 returns : tie.Need-returns
 returns c =
     let a = c .before .before .before .before .before .before .before .before .before .before .before .before .before .before .before .before .args in

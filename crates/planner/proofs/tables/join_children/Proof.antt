@@ -1,24 +1,15 @@
 -- `join_children` meets its contract, child by child.
 use Rattle.subsets.proofs.Count.{joins-child}
-use Prim.Native.Nat.{ℕ, zero, suc, _+_, _-_, _*_, _^_, _≤_, _<_}
+use Prim.Native.Nat.{ℕ, suc, _-_, _<_}
 use native.Mathlib.Omega.{arith}
-use mathlib.Core.Path.{_≡_, refl, sym, ap, _∙_, subst}
-use borrow.Author.Needs.{needs}
-use mathlib.Core.Bool.{Bool, true, false}
-use mathlib.Core.List.{List}
-use lib.ListN.{length, getD}
+use mathlib.Core.Path.{_≡_, _∙_, subst}
 use Rattle.subsets.specs.Rows.{child}
-use Rattle.sheet.specs.Instance.{Instance, WellFormed}
 use Rattle.embedding.specs.Charge.{net}
 use Rattle.planner.specs.Loaded.{held}
-use Rattle.planner.specs.Tables.{entry, cost-entry, Ready, Summed, JoinedChild, Rebuilt}
+use Rattle.planner.specs.Tables.{Rebuilt}
 use Rattle.planner.proofs.Rebuilding.{Children, joins-le, children-start, children-next}
 use Rattle.planner.proofs.tables.join_children.Statement.{statement}
 use Rattle.planner.proofs.tables.join_children.Tie as tie
-use Rattle.planner.proofs.tables.join_children.Reads as reads
-use Rattle.planner.proofs.tables.join_children.Lts as lts
-use Rattle.planner.proofs.tables.join_child.Reads as join-child-reads
-use Rattle.planner.proofs.tables.next_child.Reads as next-child-reads
 
 abbrev Inv-loop : tie.InvT-loop
 Inv-loop costs₀ choices₀ records leaving entering p size n count₀ c₀ costs choices count c = Children (held records) p c costs₀ costs choices₀ choices count
@@ -26,12 +17,10 @@ Inv-loop costs₀ choices₀ records leaving entering p size n count₀ c₀ cos
 abbrev μ-loop : tie.MeasureT-loop
 μ-loop costs₀ choices₀ records leaving entering p size n count₀ c₀ costs choices count c = n - c
 
--- src/tables.rt:104:40
 add-next-child : tie.Need-add-next-child Inv-loop μ-loop
 unfolding held
 add-next-child c = omega (arith, c .before .before .pre .0 .well-formed .cabinets, c .before .before .pre .1 .1 .0 .0)
 
--- src/tables.rt:104:9
 next-child-requires : tie.Need-next-child-requires Inv-loop μ-loop
 unfolding held
 next-child-requires c κs =
@@ -39,7 +28,6 @@ next-child-requires c κs =
     let h = c .before .before .pre .1 .1 .0 .0 in
     (omega arith, omega (arith, h), W .cabinets)
 
--- src/tables.rt:105:5
 loop-holds : tie.Need-loop-holds Inv-loop μ-loop
 loop-holds c =
     let a = c .before .before .before .args in
@@ -47,7 +35,6 @@ loop-holds c =
     let E = c .next-child .ensures in
     children-start (held (a .records)) (P .0 .well-formed) (a .p) (a .costs .now) (a .choices .now) (P .1 .1 .1) (c .next-child .result) (E .0 .0) (E .0 .1) (E .1 .0) (E .1 .1)
 
--- src/tables.rt:106:18
 join-child-requires : tie.Need-join-child-requires Inv-loop μ-loop
 unfolding held
 join-child-requires c κs =
@@ -60,7 +47,6 @@ join-child-requires c κs =
       (P .1 .0, ((h, C .next h), λ x m. (C .rebuilt .costs .row x m, C .rebuilt .costs .rest (l .c) x (λ e. omega (arith, C .after)) m ∙ P .1 .1 .0 .1 (l .c) x (C .after) h m))),
     )
 
--- src/tables.rt:106:9
 add-count : tie.Need-add-count Inv-loop μ-loop
 unfolding held
 add-count c =
@@ -70,12 +56,10 @@ add-count c =
     let h : l .c < held (a .records) .s = c .before .before .before .before .before .before .before .loop-test .taken in
     omega (arith, l .inv .rebuilt .count, c .before .before .before .before .join-child .ensures .count, joins-child (net (held (a .records))) (a .p) (l .c) (l .inv .next h), joins-le (held (a .records)) W (a .p) (suc (l .c)) (omega (arith, W .cabinets)))
 
--- src/tables.rt:107:36
 add-next-child-2 : tie.Need-add-next-child-2 Inv-loop μ-loop
 unfolding held
 add-next-child-2 c = omega (arith, c .before .before .before .before .before .before .before .before .before .before .before .before .pre .0 .well-formed .cabinets)
 
--- src/tables.rt:107:9
 next-child-requires-2 : tie.Need-next-child-requires-2 Inv-loop μ-loop
 unfolding held
 next-child-requires-2 c κs =
@@ -83,11 +67,9 @@ next-child-requires-2 c κs =
     let h : c .before .before .before .before .before .before .before .before .loop .c < held (c .before .before .before .before .before .before .before .before .before .before .before .before .args .records) .s = c .before .before .before .before .before .before .before .loop-test .taken in
     (omega arith, omega (arith, h), W .cabinets)
 
--- src/tables.rt:105:5
 loop-less : tie.Need-loop-less Inv-loop μ-loop
 loop-less c = omega (arith, c .next-child2 .ensures .0 .0, c .before .before .before .before .before .before .before .before .loop-test .taken)
 
--- src/tables.rt:105:5
 loop-again : tie.Need-loop-again Inv-loop μ-loop
 unfolding held
 loop-again c =
@@ -99,15 +81,12 @@ loop-again c =
     children-next (held (a .records)) (c .before .before .before .before .before .before .before .before .before .before .before .before .before .pre .0 .well-formed) (a .p) (a .costs .now) (a .choices .now) (l .costs) (l .choices) (l .count) (l .c) (l .inv) h
     (J .last .0) (J .last .1 .0) (J .result) (J .ensures) (J .kept .0) (J .kept .1 .0) (c .next-child2 .result) (E .0 .0) (E .0 .1) (E .1 .0) (E .1 .1)
 
--- src/tables.rt:85:1
 same-length : tie.Need-same-length Inv-loop μ-loop
 same-length c = c .before .loop .inv .costs-length
 
--- src/tables.rt:85:1
 same-length-2 : tie.Need-same-length-2 Inv-loop μ-loop
 same-length-2 c = c .before .loop .inv .choices-length
 
--- src/tables.rt:85:1
 returns : tie.Need-returns Inv-loop μ-loop
 unfolding held
 returns c =

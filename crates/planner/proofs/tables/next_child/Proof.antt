@@ -1,19 +1,16 @@
 -- `next_child` meets its contract: the cabinets passed are not children of p.
 use borrow.Author.Count.{below-more}
 use Rattle.planner.proofs.Children.{child-is, child-not}
-use Prim.Native.Nat.{ℕ, zero, suc, _+_, _-_, _*_, _^_, _≤_, _<_}
+use Prim.Native.Nat.{ℕ, _-_, _≤_, _<_}
 use native.Mathlib.Omega.{arith}
-use mathlib.Core.Path.{_≡_, refl, sym, ap, _∙_, subst}
+use mathlib.Core.Path.{_≡_}
 use borrow.Author.Needs.{needs}
-use mathlib.Core.Bool.{Bool, true, false}
-use lib.ListN.{length, getD}
+use mathlib.Core.Bool.{false}
 use Rattle.subsets.specs.Rows.{child}
 use Rattle.embedding.specs.Charge.{net}
 use Rattle.planner.specs.Loaded.{held}
 use Rattle.planner.proofs.tables.next_child.Statement.{statement}
 use Rattle.planner.proofs.tables.next_child.Tie as tie
-use Rattle.planner.proofs.tables.next_child.Reads as reads
-use Rattle.planner.proofs.tables.next_child.Lts as lts
 
 abbrev Inv-loop : tie.InvT-loop
 Inv-loop p c records n d₀ d = (c ≤ d) × (d ≤ n) × ((b : ℕ) → c ≤ b → b < d → child (net (held records)) p b ≡ false)
@@ -21,22 +18,18 @@ Inv-loop p c records n d₀ d = (c ≤ d) × (d ≤ n) × ((b : ℕ) → c ≤ b
 abbrev μ-loop : tie.MeasureT-loop
 μ-loop p c records n d₀ d = n - d
 
--- src/tables.rt:40:5
 loop-holds : tie.Need-loop-holds Inv-loop μ-loop
 unfolding held
 loop-holds c = (omega arith, c .pre .1, λ b l m. absurd (omega arith))
 
--- src/tables.rt:41:17
 mul-k : tie.Need-mul-k Inv-loop μ-loop
 unfolding held
 mul-k c = omega (arith, c .before .before .pre)
 
--- src/tables.rt:41:17
 element-copy-out-k : tie.Need-element-copy-out-k Inv-loop μ-loop
 unfolding held
 element-copy-out-k c = omega (arith, c .before .before .pre)
 
--- src/tables.rt:43:13
 returns : tie.Need-returns Inv-loop μ-loop
 unfolding held
 returns c =
@@ -44,15 +37,12 @@ returns c =
     let l = c .before .before .before .before .loop in
     ((l .inv .0, omega arith), (λ m. child-is (net (held (a .t1))) (a .p) (l .d) (omega (arith, c .before .before .before .before .before .pre)) (c .if1 .taken), l .inv .2))
 
--- src/tables.rt:45:9
 add-d : tie.Need-add-d Inv-loop μ-loop
 add-d c = search needs
 
--- src/tables.rt:40:5
 loop-less : tie.Need-loop-less Inv-loop μ-loop
 loop-less c = search needs
 
--- src/tables.rt:40:5
 loop-again : tie.Need-loop-again Inv-loop μ-loop
 unfolding held
 loop-again c =
@@ -61,7 +51,6 @@ loop-again c =
     let more = below-more (λ b. a .c ≤ b → child (net (held (a .t1))) (a .p) b ≡ false) (l .d) (λ b m h. l .inv .2 b h m) (λ h. child-not (net (held (a .t1))) (a .p) (l .d) (c .if1 .left)) in
     (omega arith, omega arith, λ b h m. more b m h)
 
--- src/tables.rt:32:1
 returns-2 : tie.Need-returns-2 Inv-loop μ-loop
 unfolding held
 returns-2 c = ((c .before .before .pre .1, omega arith), (λ m. absurd (omega arith), λ b l m. c .before .loop .inv .2 b l (omega arith)))

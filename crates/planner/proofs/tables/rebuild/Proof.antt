@@ -1,27 +1,20 @@
 -- `rebuild` meets its contract: the row of p is lent and filled with its own charges, then its children are joined.
-use Prim.Native.Nat.{ℕ, zero, suc, _+_, _-_, _*_, _^_, _≤_, _<_}
+use Prim.Native.Nat.{ℕ, _+_, _-_, _*_, _^_}
 use native.Mathlib.Omega.{arith}
-use mathlib.Core.Path.{_≡_, refl, sym, ap, _∙_, subst}
+use mathlib.Core.Path.{_≡_, ap, _∙_, subst}
 use borrow.Author.Needs.{needs}
-use mathlib.Core.Bool.{true}
-use mathlib.Core.List.{List}
-use lib.ListN.{length, getD, take, drop}
+use lib.ListN.{length}
 use borrow.Rule.Slice.PartMut.{putMid}
 use Rattle.subsets.specs.Figures.{figure}
-use Rattle.sheet.specs.Instance.{Instance, WellFormed}
-use Rattle.embedding.specs.Charge.{cabinet-charge, net}
+use Rattle.embedding.specs.Charge.{cabinet-charge}
 use Rattle.planner.specs.Loaded.{held}
 use Rattle.planner.specs.Sums.{own-figure}
-use Rattle.planner.specs.Tables.{entry, Ready, Summed, RowSet, Rebuilt}
+use Rattle.planner.specs.Tables.{RowSet}
 use Rattle.planner.proofs.Charging.{cabinet-of, own-is, demand-small}
 use Rattle.planner.proofs.Parted.{Room, room, row-length, put-length, row-put}
 use Rattle.planner.proofs.Rebuilding.{row-again}
 use Rattle.planner.proofs.tables.rebuild.Statement.{statement}
 use Rattle.planner.proofs.tables.rebuild.Tie as tie
-use Rattle.planner.proofs.tables.rebuild.Reads as reads
-use Rattle.planner.proofs.tables.rebuild.Lts as lts
-use Rattle.planner.proofs.charges.fill_own.Reads as fill-own-reads
-use Rattle.planner.proofs.tables.join_children.Reads as join-children-reads
 
 -- the row of p lies within both tables
 space : (c : tie.Start) → Room (held (c .args .t3)) (c .args .size) (c .args .costs .now) (c .args .choices .now) (c .args .p)
@@ -44,39 +37,30 @@ own-row c =
     (λ x l. c .before .before .before .before .fill-own .ensures x (omega (arith, row-length (a .size) (a .p) (a .costs .now) fits))
     ∙ ap (own-figure (cabinet-of (a .t3) (a .p))) (P .1 .0 .demand x (omega (arith, P .0 .row-size))) ∙ own-is (a .t3) (a .p) x))
 
--- src/tables.rt:130:13
 mul-k : tie.Need-mul-k
 mul-k c = omega (arith, c .before .before .pre .0 .well-formed .cabinets)
 
--- src/tables.rt:130:13
 element-copy-out-k : tie.Need-element-copy-out-k
 element-copy-out-k c = omega (arith, c .before .before .pre .0 .well-formed .cabinets)
 
--- src/tables.rt:131:14
 mul-at : tie.Need-mul-at
 mul-at c = omega (arith, space (c .before .before .before))
 
--- src/tables.rt:132:15
 add-end : tie.Need-add-end
 add-end c = omega (arith, space (c .before .before .before))
 
--- src/tables.rt:133:14
 mul-fill-own : tie.Need-mul-fill-own
 mul-fill-own c = omega (arith, space (c .before .before .before))
 
--- src/tables.rt:133:14
 sub-fill-own : tie.Need-sub-fill-own
 sub-fill-own c = search needs
 
--- src/tables.rt:133:14
 part-fill-own-start : tie.Need-part-fill-own-start
 part-fill-own-start c = search needs
 
--- src/tables.rt:133:14
 part-fill-own-end : tie.Need-part-fill-own-end
 part-fill-own-end c = omega (arith, space (c .before .before .before))
 
--- src/tables.rt:133:5
 fill-own-requires : tie.Need-fill-own-requires
 unfolding held
 fill-own-requires c κs =
@@ -89,7 +73,6 @@ fill-own-requires c κs =
       λ x l. demand-small (held (a .t3)) W (a .demands .now) (a .leaving .now) (a .entering .now) (P .1 .0) x (omega (arith, e, P .0 .row-size)),
     )
 
--- src/tables.rt:134:5
 join-children-requires : tie.Need-join-children-requires
 join-children-requires c κs =
     let a = c .before .before .before .before .before .before .before .before .before .args in
@@ -104,15 +87,12 @@ join-children-requires c κs =
       ((a .demands .now, P .1 .0), ((P .1 .1 .0, λ d x l m h. O .rest d x (λ e. omega arith) h ∙ P .1 .1 .1 d x l m h), O .row)),
     )
 
--- src/tables.rt:113:1
 same-length : tie.Need-same-length
 same-length c = search needs
 
--- src/tables.rt:113:1
 same-length-2 : tie.Need-same-length-2
 same-length-2 c = search needs
 
--- src/tables.rt:113:1
 returns : tie.Need-returns
 returns c =
     let a = c .before .before .before .before .before .before .before .before .before .before .before .before .before .before .args in
