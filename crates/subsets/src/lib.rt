@@ -1,10 +1,12 @@
 // Weighing a split, the powers of three, and sets of services as the binary digits of a number.
 ghost use mathlib.Core.Path.{_≡_};
-ghost use Prim.Native.Nat.{_-_};
+ghost use mathlib.Core.Bool.{cond};
+ghost use Prim.Native.Nat.{_-_, min};
 ghost use lib.Bits.{bitAnd};
 ghost use Rattle.subsets.specs.Sets.{has};
-ghost use Rattle.subsets.specs.Figures.{weighing};
+ghost use Rattle.subsets.specs.Figures.{is-cost, weighing};
 ghost use Rattle.subsets.specs.Powers.{power-of-three};
+use std::num::wrapping_add_u64;
 
 // The largest figure that is a cost. Any number above it is 'none'.
 pub const LIMIT: u64 = 1000000000000000;
@@ -24,39 +26,34 @@ pub struct Best {
     pub counted: u64,
 }
 
+// Whether a figure is a cost.
+fn is_cost(figure: u64) -> bool
+    ensures { λ b. ⌜ b ≡ is-cost figure ⌝ }
+{
+    figure <= LIMIT
+}
+
+// The number where it is allowed and lower than the best, else the best.
+fn lower(best: u64, number: u64, allowed: bool) -> u64
+    ensures { λ n. ⌜ n ≡ cond allowed (min best number) best ⌝ }
+{
+    if allowed & (number < best) {
+        number
+    } else {
+        best
+    }
+}
+
 // Weighs one split: the lesser of `best` and the sum of the other three figures, and 1 where `placed` is a cost.
+// The sum is taken before the figures are tested, so that no branch depends on them; only a sum of costs is used.
 pub fn weigh(best: u64, placed: u64, rest: u64, link: u64) -> Weighed
     ensures { λ r. ⌜ r ≡ weighing best placed rest link ⌝ }
 {
-    if LIMIT < placed {
-        return Weighed {
-            best: best,
-            counted: 0,
-        };
-    }
-    if LIMIT < rest {
-        return Weighed {
-            best: best,
-            counted: 1,
-        };
-    }
-    if LIMIT < link {
-        return Weighed {
-            best: best,
-            counted: 1,
-        };
-    }
-    let sum = placed + rest + link;
-    if sum < best {
-        Weighed {
-            best: sum,
-            counted: 1,
-        }
-    } else {
-        Weighed {
-            best: best,
-            counted: 1,
-        }
+    let sum = wrapping_add_u64(wrapping_add_u64(placed, rest), link);
+    let costs = is_cost(placed) & is_cost(rest) & is_cost(link);
+    Weighed {
+        best: lower(best, sum, costs),
+        counted: is_cost(placed) as u64,
     }
 }
 
