@@ -1,0 +1,70 @@
+/* checker.c: gz_check on lent memory, with what the header says of it. */
+#include "checker.h"
+
+#include <string.h>
+
+#include "gazrieksne.h"
+#include "refusals.h"
+#include "require.h"
+#include "rules.h"
+
+static int all_cabinets_there(uint64_t s, const uint16_t *plan, size_t places)
+{
+    size_t i;
+
+    for (i = 0; i < places; i++)
+        if (plan[i] >= s)
+            return 0;
+    return 1;
+}
+
+/* True if a cabinet of an accepted sheet holds more demand than its capacity. */
+static int is_overfull(const uint8_t *sheet, const uint16_t *plan, size_t places)
+{
+    size_t i;
+    size_t other;
+
+    for (i = 0; i < places; i++) {
+        uint64_t held = 0;
+        for (other = 0; other < places; other++)
+            if (plan[other] == plan[i])
+                held += field_at(sheet, SERVICES, other, 0);
+        if (held > field_at(sheet, CABINETS, plan[i], 1))
+            return 1;
+    }
+    return 0;
+}
+
+/* The number that must be given; 0 where 16 may apply or none. */
+static uint64_t lowest(const struct run *run, const struct reading *reading, const uint16_t *plan,
+                       size_t places)
+{
+    if (reading->number != 0)
+        return reading->number;
+    if (places != reading->counts[1])
+        return 13;
+    if (!all_cabinets_there(reading->counts[2], plan, places))
+        return 14;
+    return is_overfull(run->input->sheet, plan, places) ? 15 : 0;
+}
+
+struct checking check_plan(const struct run *run, const struct reading *reading,
+                           const uint16_t *plan, size_t places)
+{
+    const uint8_t *sheet = lend_sheet(run);
+    const uint16_t *lent = lend_plan(run, plan, places);
+    uint64_t *answer = lend_result(run, 2);
+    uint64_t expected = lowest(run, reading, plan, places);
+    struct checking checking;
+
+    checking.number = gz_check(sheet, run->input->sheet_len, lent, places, answer);
+    if (expected != 0 || checking.number != 16)
+        require_number(checking.number, expected);
+    take_result(run, checking.number, answer, 2, checking.answer);
+    require(checking.number == 0 || checking.answer[1] == 0,
+            "gz_check: the cost is 0 in a refusal");
+    require_sheet_kept(run, sheet);
+    require(memcmp(lent, plan, places * sizeof *plan) == 0,
+            "A call writes nothing but what is told with it (plan)");
+    return checking;
+}

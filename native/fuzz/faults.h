@@ -1,0 +1,99 @@
+/* faults.h: calls that are wrong on purpose, one fault each, which the fuzz target must tell. */
+#ifndef FAULTS_H
+#define FAULTS_H
+
+#include <stddef.h>
+#include <stdint.h>
+
+/* The calls, each with what it was given; the number is what it returns. */
+struct sheet {
+    const uint8_t *bytes;
+    size_t length;
+};
+
+struct read {
+    struct sheet sheet;
+    uint64_t *counts;
+    uint64_t number;
+};
+
+struct record {
+    struct sheet sheet;
+    size_t which;
+    uint64_t *record;
+    uint64_t number;
+};
+
+struct check {
+    struct sheet sheet;
+    const uint16_t *plan;
+    size_t plan_len;
+    uint64_t *answer;
+    uint64_t number;
+};
+
+struct plan {
+    struct sheet sheet;
+    uint16_t *output;
+    size_t output_len;
+    uint64_t *costs;
+    size_t costs_len;
+    uint16_t *choices;
+    size_t choices_len;
+    uint64_t *answer;
+    uint64_t number;
+};
+
+struct bound {
+    size_t services, cabinets;
+    uint64_t *answer;
+    uint64_t number;
+};
+
+/* One fault: the calls that it makes wrong, or the sheet that all calls are given instead. */
+struct fault {
+    const char *what;
+    struct sheet (*sheet)(struct sheet sheet);
+    void (*read)(struct read *call);
+    void (*service)(struct record *call);
+    void (*cabinet)(struct record *call);
+    void (*stream)(struct record *call);
+    void (*check)(struct check *call);
+    void (*plan)(struct plan *call);
+    void (*bound)(struct bound *call);
+};
+
+/* Each list ends with a fault without a name. */
+extern const struct fault sheet_faults[];
+extern const struct fault reader_faults[];
+extern const struct fault checker_faults[];
+extern const struct fault planner_faults[];
+
+/* The archive's own calls. */
+void real_read(struct read *call);
+void real_service(struct record *call);
+void real_cabinet(struct record *call);
+void real_stream(struct record *call);
+void real_check(struct check *call);
+void real_plan(struct plan *call);
+void real_bound(struct bound *call);
+
+/* What the archive says of a sheet; the counts are 0 if it is refused. */
+struct counts {
+    uint64_t number;
+    size_t r, s, q, entries;
+};
+
+struct counts counts_of(struct sheet sheet);
+
+/* A copy of a sheet, to be changed. */
+extern uint8_t other_sheet[];
+struct sheet copy_sheet(struct sheet sheet);
+
+/* Puts a word into a field of each cabinet of the copied sheet, from the first one given on. */
+void set_cabinets(struct sheet sheet, size_t first, size_t field, unsigned word);
+
+/* Where memory is read that must not be. */
+extern volatile unsigned seen;
+
+#endif

@@ -1,0 +1,194 @@
+/* faulty.c: the library with the fault that GZ_FAULT names by its number.
+ *
+ * The linker puts the wrappers below before the archive's calls (--wrap). Fault 0 is the archive as
+ * it is; a number above the last ends the program with status 3. */
+#include <stdio.h>
+#include <stdlib.h>
+#include <string.h>
+
+#include "faults.h"
+#include "input.h"
+#include "lent.h"
+#include "sheets.h"
+
+enum { NO_SUCH_FAULT = 3 };
+
+uint64_t __real_gz_read(const uint8_t *, size_t, uint64_t *);
+uint64_t __real_gz_service(const uint8_t *, size_t, size_t, uint64_t *);
+uint64_t __real_gz_cabinet(const uint8_t *, size_t, size_t, uint64_t *);
+uint64_t __real_gz_stream(const uint8_t *, size_t, size_t, uint64_t *);
+uint64_t __real_gz_check(const uint8_t *, size_t, const uint16_t *, size_t, uint64_t *);
+uint64_t __real_gz_plan(const uint8_t *, size_t, uint16_t *, size_t, uint64_t *, size_t, uint16_t *,
+                        size_t, uint64_t *);
+uint64_t __real_gz_bound(size_t, size_t, uint64_t *);
+
+void real_read(struct read *call)
+{
+    call->number = __real_gz_read(call->sheet.bytes, call->sheet.length, call->counts);
+}
+
+void real_service(struct record *call)
+{
+    call->number =
+        __real_gz_service(call->sheet.bytes, call->sheet.length, call->which, call->record);
+}
+
+void real_cabinet(struct record *call)
+{
+    call->number =
+        __real_gz_cabinet(call->sheet.bytes, call->sheet.length, call->which, call->record);
+}
+
+void real_stream(struct record *call)
+{
+    call->number =
+        __real_gz_stream(call->sheet.bytes, call->sheet.length, call->which, call->record);
+}
+
+void real_check(struct check *call)
+{
+    call->number = __real_gz_check(call->sheet.bytes, call->sheet.length, call->plan,
+                                   call->plan_len, call->answer);
+}
+
+void real_plan(struct plan *call)
+{
+    call->number = __real_gz_plan(call->sheet.bytes, call->sheet.length, call->output,
+                                  call->output_len, call->costs, call->costs_len, call->choices,
+                                  call->choices_len, call->answer);
+}
+
+void real_bound(struct bound *call)
+{
+    call->number = __real_gz_bound(call->services, call->cabinets, call->answer);
+}
+
+struct counts counts_of(struct sheet sheet)
+{
+    uint64_t told[4];
+    struct counts counts;
+
+    counts.number = __real_gz_read(sheet.bytes, sheet.length, told);
+    counts.r = (size_t)told[1];
+    counts.s = (size_t)told[2];
+    counts.q = (size_t)told[3];
+    counts.entries = counts.s << counts.r;
+    return counts;
+}
+
+uint8_t other_sheet[MOST_SHEET];
+volatile unsigned seen;
+
+struct sheet copy_sheet(struct sheet sheet)
+{
+    struct sheet copy = {other_sheet, sheet.length};
+
+    if (sheet.length > 0)
+        memcpy(other_sheet, sheet.bytes, sheet.length);
+    return copy;
+}
+
+void set_cabinets(struct sheet sheet, size_t first, size_t field, unsigned word)
+{
+    size_t cabinets = word_at(sheet.bytes, 2);
+    size_t c;
+
+    for (c = first; c < cabinets; c++)
+        put_word(other_sheet, word_at(sheet.bytes, 8) + 14 * c + 2 * field, word);
+}
+
+/* The fault of this number, counted through all lists. */
+static const struct fault *find(unsigned long number)
+{
+    static const struct fault none = {.what = "none"};
+    const struct fault *lists[] = {sheet_faults, reader_faults, checker_faults, planner_faults};
+    const struct fault *fault;
+    size_t i;
+
+    if (number == 0)
+        return &none;
+    for (i = 0; i < sizeof lists / sizeof *lists; i++)
+        for (fault = lists[i]; fault->what != NULL; fault++)
+            if (--number == 0)
+                return fault;
+    exit(NO_SUCH_FAULT);
+}
+
+static const struct fault *chosen(void)
+{
+    static const struct fault *fault;
+
+    if (fault == NULL) {
+        const char *number = getenv("GZ_FAULT");
+        fault = find(number != NULL ? strtoul(number, NULL, 10) : 0);
+        fprintf(stderr, "fault: %s\n", fault->what);
+    }
+    return fault;
+}
+
+static struct sheet given(const uint8_t *bytes, size_t length)
+{
+    struct sheet sheet = {bytes, length};
+
+    return chosen()->sheet != NULL ? chosen()->sheet(sheet) : sheet;
+}
+
+uint64_t __wrap_gz_read(const uint8_t *sheet, size_t sheet_len, uint64_t *counts)
+{
+    struct read call = {given(sheet, sheet_len), counts, 0};
+
+    (chosen()->read != NULL ? chosen()->read : real_read)(&call);
+    return call.number;
+}
+
+uint64_t __wrap_gz_service(const uint8_t *sheet, size_t sheet_len, size_t number, uint64_t *record)
+{
+    struct record call = {given(sheet, sheet_len), number, record, 0};
+
+    (chosen()->service != NULL ? chosen()->service : real_service)(&call);
+    return call.number;
+}
+
+uint64_t __wrap_gz_cabinet(const uint8_t *sheet, size_t sheet_len, size_t number, uint64_t *record)
+{
+    struct record call = {given(sheet, sheet_len), number, record, 0};
+
+    (chosen()->cabinet != NULL ? chosen()->cabinet : real_cabinet)(&call);
+    return call.number;
+}
+
+uint64_t __wrap_gz_stream(const uint8_t *sheet, size_t sheet_len, size_t number, uint64_t *record)
+{
+    struct record call = {given(sheet, sheet_len), number, record, 0};
+
+    (chosen()->stream != NULL ? chosen()->stream : real_stream)(&call);
+    return call.number;
+}
+
+uint64_t __wrap_gz_check(const uint8_t *sheet, size_t sheet_len, const uint16_t *plan,
+                         size_t plan_len, uint64_t *answer)
+{
+    struct check call = {given(sheet, sheet_len), plan, plan_len, answer, 0};
+
+    (chosen()->check != NULL ? chosen()->check : real_check)(&call);
+    return call.number;
+}
+
+uint64_t __wrap_gz_plan(const uint8_t *sheet, size_t sheet_len, uint16_t *output, size_t output_len,
+                        uint64_t *costs, size_t costs_len, uint16_t *choices, size_t choices_len,
+                        uint64_t *answer)
+{
+    struct plan call = {given(sheet, sheet_len), output, output_len, costs, costs_len, choices,
+                        choices_len, answer, 0};
+
+    (chosen()->plan != NULL ? chosen()->plan : real_plan)(&call);
+    return call.number;
+}
+
+uint64_t __wrap_gz_bound(size_t services, size_t cabinets, uint64_t *answer)
+{
+    struct bound call = {services, cabinets, answer, 0};
+
+    (chosen()->bound != NULL ? chosen()->bound : real_bound)(&call);
+    return call.number;
+}

@@ -1,0 +1,166 @@
+/* main.c: the standalone driver: makes inputs for the target and tells what they met. */
+#define _DEFAULT_SOURCE
+#include <inttypes.h>
+#include <signal.h>
+#include <stdio.h>
+#include <stdlib.h>
+#include <string.h>
+#include <unistd.h>
+
+#include "damage.h"
+#include "random.h"
+#include "require.h"
+#include "sheets.h"
+#include "target.h"
+
+enum { GATE_INPUTS = 100000, GATE_SEED = 1, MOST_WORDS = 12 };
+
+static const char usage[] =
+    "usage: fuzz [INPUTS [SEED]]\n"
+    "Makes INPUTS inputs (default %d) from SEED (default %d), runs the target on each, and prints\n"
+    "how often each answer was met. From %d inputs on, an answer that a call may give and never\n"
+    "gave is a failure too.\n";
+
+/* The input under way, for the line that a failure ends with. */
+static char under_way[64];
+static struct sigaction before[2];
+static const int watched[2] = {SIGABRT, SIGSEGV};
+
+/* Names the input; the signal then takes its course under the handlers that stood before. */
+static void name_input(int number)
+{
+    ssize_t written = write(STDERR_FILENO, under_way, strlen(under_way));
+    int i;
+
+    (void)number;
+    (void)written;
+    for (i = 0; i < 2; i++)
+        sigaction(watched[i], &before[i], NULL);
+}
+
+static void watch(void)
+{
+    struct sigaction action;
+    int i;
+
+    memset(&action, 0, sizeof action);
+    action.sa_handler = name_input;
+    for (i = 0; i < 2; i++)
+        require(sigaction(watched[i], &action, &before[i]) == 0, "the handler is set");
+}
+
+/* Mostly lengths as needed, so that a good part of the sheets is planned. */
+static void draw_choices(struct random *random, uint8_t choice[CHOICES])
+{
+    int i;
+
+    for (i = 0; i < CHOICES; i++)
+        choice[i] = (uint8_t)random_next(random);
+    for (i = OUTPUT_LENGTH; i <= PLAN_LENGTH; i++)
+        if (!random_once_in(random, 4))
+            choice[i] = 0;
+    choice[TAIL] = (uint8_t)random_below(random, MOST_WORDS + 1);
+}
+
+static size_t draw_bytes(struct random *random, uint8_t *bytes)
+{
+    size_t length = random_below(random, random_once_in(random, 16) ? 400 : 40);
+    size_t i;
+
+    for (i = 0; i < length; i++)
+        bytes[i] = (uint8_t)random_next(random);
+    return length;
+}
+
+/* Bytes, an example, a road, or one of the last two damaged. Gives the size of the input. */
+static size_t draw_input(struct random *random, uint8_t *bytes)
+{
+    unsigned kind = random_below(random, 16);
+    uint8_t *sheet = bytes + CHOICES;
+    size_t length;
+    unsigned i;
+
+    if (kind == 0)
+        return draw_bytes(random, bytes);
+    draw_choices(random, bytes);
+    length = random_once_in(random, 16) ? example_sheet(random, sheet) : draw_sheet(random, sheet);
+    if (kind < 8)
+        length = damage_sheet(random, sheet, length);
+    for (i = 0; i < bytes[TAIL]; i++)
+        put_word(sheet, length + 2 * i, (unsigned)random_next(random) % 65536);
+    return CHOICES + length + 2 * (size_t)bytes[TAIL];
+}
+
+static void run_inputs(uint64_t inputs, uint64_t seed)
+{
+    static uint8_t bytes[CHOICES + MOST_DAMAGED + 2 * MOST_WORDS];
+    struct random random = {seed};
+    uint64_t i;
+
+    for (i = 0; i < inputs; i++) {
+        size_t size = draw_input(&random, bytes);
+
+        snprintf(under_way, sizeof under_way, "input %" PRIu64 " of seed %" PRIu64 "\n", i, seed);
+        LLVMFuzzerTestOneInput(bytes, size);
+    }
+}
+
+/* True if the header lets the call give this number. */
+static int may_give(int call, int number)
+{
+    if (number <= 9)
+        return 1;
+    return call == CHECK ? number >= 13 : call == FIND && number <= 12;
+}
+
+/* Prints the tally. Gives the number of answers never met. */
+static int tell(void)
+{
+    int missing = 0;
+    int number;
+    int call;
+
+    printf("%" PRIu64 " inputs, %" PRIu64 " accepted\n", tally.inputs, tally.met[READ][0]);
+    printf("answer  %10s %10s %10s\n", "gz_read", "gz_check", "gz_plan");
+    for (number = 0; number <= LAST_REFUSAL; number++) {
+        printf("%6d ", number);
+        for (call = 0; call < CALLS; call++) {
+            missing += may_give(call, number) && tally.met[call][number] == 0;
+            if (may_give(call, number))
+                printf(" %10" PRIu64, tally.met[call][number]);
+            else
+                printf(" %10s", "");
+        }
+        printf("\n");
+    }
+    return missing;
+}
+
+/* A whole number in decimal; false if the text is anything else. */
+static int parse(const char *text, uint64_t *number)
+{
+    char *end;
+
+    *number = strtoull(text, &end, 10);
+    return *text >= '0' && *text <= '9' && *end == '\0';
+}
+
+int main(int argc, char **argv)
+{
+    uint64_t inputs = GATE_INPUTS;
+    uint64_t seed = GATE_SEED;
+    int missing;
+
+    if (argc > 3 || (argc > 1 && !parse(argv[1], &inputs))
+        || (argc > 2 && !parse(argv[2], &seed))) {
+        fprintf(stderr, usage, GATE_INPUTS, GATE_SEED, GATE_INPUTS);
+        return 2;
+    }
+    watch();
+    run_inputs(inputs, seed);
+    missing = tell();
+    if (missing == 0 || inputs < GATE_INPUTS)
+        return 0;
+    fprintf(stderr, "%d answers were never met\n", missing);
+    return 1;
+}

@@ -1,0 +1,192 @@
+/* sheets.c: random sheets that keep every rule of the header. */
+#include "sheets.h"
+
+#include <string.h>
+
+#include "rules.h"
+
+enum { HEADER = 16, MOST_AMOUNT = 10000, NO_PARENT = 65535 };
+enum { CAPACITY = 1, UP_CAPACITY = 3, DOWN_CAPACITY = 5, CABINET_FIELDS = 7, STREAM_FIELDS = 3 };
+
+/* The numbers of services, cabinets and streams, and what amounts are like. */
+struct road {
+    unsigned count[BLOCKS];
+    unsigned most;   /* amounts are at most this */
+    unsigned room;   /* about how many demands a cabinet's capacity is made for */
+    unsigned width;  /* the same for a link */
+    unsigned shape;  /* of the tree */
+};
+
+void put_word(uint8_t *bytes, size_t at, unsigned word)
+{
+    bytes[at] = (uint8_t)(word % 256);
+    bytes[at + 1] = (uint8_t)(word / 256 % 256);
+}
+
+/* Mostly few services and cabinets: time grows with 3^r and with s. */
+static void draw_counts(struct random *random, struct road *road)
+{
+    unsigned large = random_below(random, 8192);
+
+    road->count[SERVICES] = random_below(random, 5);
+    road->count[CABINETS] = 1 + random_below(random, 6);
+    if (large == 0) {
+        road->count[SERVICES] = 10;
+        road->count[CABINETS] = 200;
+    } else if (large < 16) {
+        road->count[SERVICES] = 5 + random_below(random, 6);
+    } else if (large < 48) {
+        road->count[CABINETS] = 200 - random_below(random, 2) * random_below(random, 200);
+    }
+    road->count[STREAMS] = 0;
+    if (road->count[SERVICES] > 1)
+        road->count[STREAMS] = random_below(random, random_once_in(random, 64) ? 101 : 5);
+}
+
+static void draw_road(struct random *random, struct road *road)
+{
+    static const unsigned most[8] = {1, 2, 4, 4, 9, 100, MOST_AMOUNT, MOST_AMOUNT};
+
+    draw_counts(random, road);
+    road->most = most[random_below(random, 8)];
+    road->room = random_below(random, 8);
+    road->width = random_below(random, 8);
+    road->shape = random_below(random, 4);
+}
+
+static unsigned draw_amount(struct random *random, const struct road *road)
+{
+    switch (random_below(random, 8)) {
+    case 0:
+        return 0;
+    case 1:
+        return road->most;
+    default:
+        return random_below(random, road->most + 1);
+    }
+}
+
+static unsigned draw_capacity(struct random *random, const struct road *road, unsigned demands)
+{
+    unsigned capacity = 0;
+    unsigned i;
+
+    if (random_once_in(random, 16))
+        return random_once_in(random, 2) ? 0 : MOST_AMOUNT;
+    for (i = random_below(random, 3); i < demands; i++)
+        capacity += draw_amount(random, road);
+    return capacity < MOST_AMOUNT ? capacity : MOST_AMOUNT;
+}
+
+/* A star, a chain, or a tree whose branches interleave. */
+static unsigned draw_parent(struct random *random, const struct road *road, unsigned cabinet)
+{
+    if (road->shape == 0)
+        return 0;
+    return road->shape == 1 ? cabinet - 1 : random_below(random, cabinet);
+}
+
+static void write_cabinet(struct random *random, const struct road *road, unsigned cabinet,
+                          uint8_t *at)
+{
+    unsigned fields = cabinet == 0 ? UP_CAPACITY : CABINET_FIELDS;
+    unsigned i;
+
+    memset(at, 0, 2 * CABINET_FIELDS);
+    put_word(at, 0, cabinet == 0 ? NO_PARENT : draw_parent(random, road, cabinet));
+    for (i = 1; i < fields; i++)
+        if (i == CAPACITY)
+            put_word(at, 2 * i, draw_capacity(random, road, road->room));
+        else if (i == UP_CAPACITY || i == DOWN_CAPACITY)
+            put_word(at, 2 * i, draw_capacity(random, road, road->width));
+        else
+            put_word(at, 2 * i, draw_amount(random, road));
+}
+
+static void write_stream(struct random *random, const struct road *road, uint8_t *at)
+{
+    unsigned from = random_below(random, road->count[SERVICES]);
+    unsigned to = random_below(random, road->count[SERVICES] - 1);
+
+    put_word(at, 0, from);
+    put_word(at, 2, to < from ? to : to + 1);
+    put_word(at, 4, draw_amount(random, road));
+}
+
+static void write_blocks(struct random *random, const struct road *road, uint8_t *bytes,
+                         const size_t offset[BLOCKS])
+{
+    unsigned i;
+
+    for (i = 0; i < road->count[SERVICES]; i++)
+        put_word(bytes, offset[SERVICES] + 2 * i, draw_amount(random, road));
+    for (i = 0; i < road->count[CABINETS]; i++)
+        write_cabinet(random, road, i, bytes + offset[CABINETS] + 2 * CABINET_FIELDS * i);
+    for (i = 0; i < road->count[STREAMS]; i++)
+        write_stream(random, road, bytes + offset[STREAMS] + 2 * STREAM_FIELDS * i);
+}
+
+static size_t draw_gap(struct random *random)
+{
+    return random_once_in(random, 4) ? random_below(random, 6) : 0;
+}
+
+/* Lays the blocks one after the other in any order with gaps; an empty block lies anywhere. Gives
+ * the length of the sheet. */
+static size_t draw_layout(struct random *random, const struct road *road, size_t offset[BLOCKS])
+{
+    unsigned first = random_below(random, BLOCKS);
+    unsigned step = 1 + random_below(random, BLOCKS - 1);
+    size_t length = HEADER + draw_gap(random);
+    unsigned i;
+
+    for (i = 0; i < BLOCKS; i++) {
+        unsigned block = (first + i * step) % BLOCKS;
+        offset[block] = length;
+        length += 2 * fields_of[block] * road->count[block] + draw_gap(random);
+    }
+    for (i = 0; i < BLOCKS; i++)
+        if (road->count[i] == 0)
+            offset[i] = HEADER + random_below(random, (unsigned)(length - HEADER + 1));
+    return length;
+}
+
+size_t draw_sheet(struct random *random, uint8_t *bytes)
+{
+    struct road road;
+    size_t offset[BLOCKS];
+    size_t length;
+    unsigned i;
+
+    draw_road(random, &road);
+    length = draw_layout(random, &road, offset);
+    memset(bytes, random_once_in(random, 2) ? 0 : 255, length);
+    for (i = 0; i < BLOCKS; i++) {
+        put_word(bytes, 2 * i, road.count[i]);
+        put_word(bytes, 6 + 2 * i, (unsigned)offset[i]);
+    }
+    put_word(bytes, 12, (unsigned)length);
+    put_word(bytes, 14, 0);
+    write_blocks(random, &road, bytes, offset);
+    return length;
+}
+
+/* The two examples differ in the capacity of the root. */
+size_t example_sheet(struct random *random, uint8_t *bytes)
+{
+    static const uint16_t words[34] = {
+        2, 3, 1, 16, 20, 62, 68, 0, /* header */
+        2, 2,                       /* services */
+        65535, 4, 5, 0, 0, 0, 0,    /* cabinet 0, the root */
+        0, 3, 1, 6, 2, 6, 1,        /* cabinet 1 */
+        0, 3, 2, 2, 1, 6, 1,        /* cabinet 2 */
+        0, 1, 3                     /* the stream */
+    };
+    size_t i;
+
+    for (i = 0; i < 34; i++)
+        put_word(bytes, 2 * i, words[i]);
+    if (random_once_in(random, 2))
+        put_word(bytes, 22, 0);
+    return 68;
+}

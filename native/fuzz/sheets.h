@@ -1,0 +1,21 @@
+/* sheets.h: random sheets that keep every rule of the header. */
+#ifndef SHEETS_H
+#define SHEETS_H
+
+#include <stddef.h>
+#include <stdint.h>
+
+#include "random.h"
+
+enum { MOST_ROAD_SHEET = 4096 };
+
+/* Puts a word at this byte, low byte first. */
+void put_word(uint8_t *bytes, size_t at, unsigned word);
+
+/* Writes a sheet of at most MOST_ROAD_SHEET bytes and gives its length. */
+size_t draw_sheet(struct random *random, uint8_t *bytes);
+
+/* Writes one of the two sheets in examples/ and gives its length. */
+size_t example_sheet(struct random *random, uint8_t *bytes);
+
+#endif

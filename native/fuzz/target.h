@@ -1,0 +1,22 @@
+/* target.h: the fuzz target, and how often each answer was met. */
+#ifndef TARGET_H
+#define TARGET_H
+
+#include <stddef.h>
+#include <stdint.h>
+
+#include "refusals.h"
+
+enum call { READ, CHECK, FIND, CALLS };
+
+struct tally {
+    uint64_t inputs;
+    uint64_t met[CALLS][LAST_REFUSAL + 1];
+};
+
+extern struct tally tally;
+
+/* Makes the calls on one input (see input.h). Aborts if one breaks a promise of the header. */
+int LLVMFuzzerTestOneInput(const uint8_t *data, size_t size);
+
+#endif
