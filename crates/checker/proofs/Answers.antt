@@ -5,18 +5,15 @@ use mathlib.Core.Path.{_≡_, refl, sym, ap, _∙_}
 use mathlib.Core.Bool.{Bool, true, false, _&&_, not, cond}
 use mathlib.Core.List.{List}
 use native.Mathlib.Omega.{arith}
-use lib.Dec.{eqb, leb}
+use lib.Dec.{eqb}
 use lib.ListN.{length}
 use borrow.Author.Tests.{eqb-true, eq-eqb}
 use Rattle.finite.proofs.Booleans.{clash, both-l}
 use Rattle.sheet.specs.Refusals.{lowest, refusal, number-of}
-use Rattle.sheet.specs.Reading as readers
 use Rattle.sheet.specs.Reading.{reading}
-use Rattle.sheet.specs.Layout.{header}
 use Rattle.sheet.specs.Instance.{instance}
 use Rattle.sheet.specs.declared.Sheet.{Sheet}
 use Rattle.sheet.specs.declared.Refusal.{Refusal}
-use Rattle.sheet.specs.declared.Refusal.the-variants.{SheetWriter, Lender, Road, PlanWriter}
 use Rattle.sheet.specs.declared.Reading.{Reading}
 use Rattle.sheet.specs.declared.Reading.the-variants as readings
 use Rattle.sheet.proofs.Promises.{well-formed}

@@ -4,18 +4,18 @@ use native.Mathlib.Nat.{mul-le-mul, mul-le-mul-right}
 use native.Mathlib.Omega.{arith}
 use mathlib.Core.Path.{_≡_}
 use mathlib.Core.Bool.{Bool, true, _&&_, not}
-use lib.Dec.{eqb, ltb}
+use lib.Dec.{ltb}
 use Rattle.finite.specs.Below.{only, sum-below}
 use Rattle.finite.proofs.Sums.{sum-le, only-le}
 use Rattle.subsets.specs.Sets.{has}
 use Rattle.subsets.specs.Tree.{under}
 use Rattle.subsets.specs.Costs.{some}
-use Rattle.subsets.specs.Net as nets
-use Rattle.subsets.specs.Net.{on, below, charge}
+use Rattle.subsets.specs.Net.{charge}
+use Rattle.subsets.proofs.Provided.{provided-some}
+use Rattle.subsets.proofs.Bound as bounds
 use Rattle.sheet.specs.Instance.{Instance, WellFormed}
-use Rattle.embedding.specs.Plan.{fee, weight, in-range, cabinets-cost, plan-cost}
+use Rattle.embedding.specs.Plan.{fee, in-range, cabinets-cost, plan-cost}
 use Rattle.embedding.specs.Charge.{leaving, entering, cabinet-charge, link-charge, net}
-use Rattle.embedding.proofs.Costs.{UpTo, up-to-provided, up-to-charged, up-to-add, up-to-total}
 use Rattle.embedding.proofs.Mappings.{range-test}
 use Rattle.embedding.proofs.Loads.{toll, links-cost-by-links}
 
@@ -38,11 +38,6 @@ module _ (I : Instance) (W : WellFormed I) where
   pub entering-le : (m : ℕ) (f : ℕ → ℕ) → ((j : ℕ) → f j ≤ m) → (x : ℕ → Bool) → entering I f x ≤ 100 * m
   unfolding entering
   entering-le m f h x = some-of (I .q) 100 m (λ j. x (I .to j) && not (x (I .from j))) f (W .streams) h
-
-  -- a stream takes at most 10,000 of a link
-  pub weight-le : (j : ℕ) → weight I j ≤ 10000
-  unfolding weight
-  weight-le = W .loads
 
 module _ (I : Instance) (W : WellFormed I) (π : ℕ → ℕ) where
   toll-le : (c : ℕ) → toll I π c ≤ 20000000000
@@ -68,28 +63,30 @@ module _ (I : Instance) (W : WellFormed I) (π : ℕ → ℕ) where
 
 module _ (I : Instance) (W : WellFormed I) where
   -- what a cabinet charges for a set
-  pub cabinet-charge-le : (c x : ℕ) → UpTo 1000000000 (cabinet-charge I c x)
+  pub cabinet-charge-le : (c x n : ℕ) → cabinet-charge I c x ≡ some n → n ≤ 1000000000
   unfolding cabinet-charge fee
-  cabinet-charge-le c x = up-to-provided 1000000000 _ _ (omega (
+  cabinet-charge-le c x n e = omega (
     arith,
     W .services,
+    provided-some _ _ n .0 e .1,
     sum-le (I .r) 100000000 (λ i. only (has x i) (I .demand i * I .price c)) (λ i k.
         omega (arith, only-le (has x i) (I .demand i * I .price c), mul-le-mul (W .demands i) (W .prices c))),
-  ))
+  )
 
   -- what a link charges for a set
-  pub link-charge-le : (c x : ℕ) → UpTo 20000000000 (link-charge I c x)
+  pub link-charge-le : (c x n : ℕ) → link-charge I c x ≡ some n → n ≤ 20000000000
   unfolding link-charge
-  link-charge-le c x = up-to-provided 20000000000 _ _
-      (omega (arith, mul-le-mul (leaving-le I W 10000 (I .load) (W .loads) (has x)) (W .up-prices c), mul-le-mul (entering-le I W 10000 (I .load) (W .loads) (has x)) (W .down-prices c)))
+  link-charge-le c x n e = omega (
+    arith,
+    provided-some _ _ n .0 e .1,
+    mul-le-mul (leaving-le I W 10000 (I .load) (W .loads) (has x)) (W .up-prices c),
+    mul-le-mul (entering-le I W 10000 (I .load) (W .loads) (has x)) (W .down-prices c),
+  )
 
   -- the charge of a placing on a part is none or below 10^15
-  pub charge-bound : (T : ℕ → Bool) (v x : ℕ) (π : ℕ → ℕ) (n : ℕ) → charge (net I) T v x π ≡ some n → n < 10 ^ 15
-  unfolding nets.charge
-  charge-bound T v x π n e = omega (
+  pub charge-bound : (T : ℕ → Bool) (v x : ℕ) (π : ℕ → ℕ) (n : ℕ) → v < I .s → charge (net I) T v x π ≡ some n → n < 10 ^ 15
+  charge-bound T v x π n h e = omega (
     arith,
     W .cabinets,
-    up-to-add (I .s * 1000000000) (I .s * 20000000000) _ _
-        (up-to-total (I .s) 1000000000 _ (λ c. up-to-charged 1000000000 (T c) _ (cabinet-charge-le c (on (net I) π x c))))
-        (up-to-total (I .s) 20000000000 _ (λ c. up-to-charged 20000000000 (T c && not (eqb c v)) _ (link-charge-le c (below (net I) π x c)))) n e,
+    bounds.charge-bound (net I) 20000000000 (λ c y k _ _ q. omega (arith, cabinet-charge-le c y k q)) (λ c y k _ _ q. link-charge-le c y k q) T v x n π h e,
   )

@@ -20,8 +20,8 @@ use Rattle.sheet.specs.Instance.{Instance, WellFormed}
 use Rattle.embedding.specs.Plan.{fits, link-fits, fee, weight, link-keeps, in-range, cabinets-keep, links-keep, valid, cabinets-cost, plan-cost, worth}
 use Rattle.embedding.specs.Splits.{stands, keeps}
 use Rattle.embedding.specs.Charge.{cabinet-charge, link-charge, net}
-use Rattle.embedding.proofs.Sets.{has-keep, has-full}
-use Rattle.embedding.proofs.Costs.{provided-add, charged-provided, total-provided, provided-some}
+use Rattle.subsets.proofs.Sets.{has-keep, has-full}
+use Rattle.subsets.proofs.Provided.{provided-add, charged-provided, total-provided, provided-some}
 use Rattle.embedding.proofs.Mappings.{InRange}
 use Rattle.embedding.proofs.Loads.{toll, link-keeps-by-cut, links-cost-by-links}
 use Rattle.embedding.proofs.Services.{fits-ext, leaving-ext, entering-ext, link-keeps-ext, toll-ext}

@@ -7,6 +7,9 @@ use mathlib.Core.List.{List}
 use Rattle.subsets.specs.Sets.{full}
 use Rattle.subsets.specs.Costs.{Cost, none, some, Le}
 use Rattle.subsets.specs.Net.{Least}
+use Rattle.subsets.proofs.Sets.{has-full}
+use Rattle.subsets.proofs.Costs.{Le-antisym, least-low, least-high, least-met}
+use Rattle.subsets.proofs.Provided.{provided-some}
 use Rattle.sheet.specs.Instance.{Instance, WellFormed}
 use Rattle.embedding.specs.Definition1.{Feasible, cost}
 use Rattle.embedding.specs.Limits.{Limits}
@@ -14,8 +17,6 @@ use Rattle.embedding.specs.Road.{road}
 use Rattle.embedding.specs.Plan.{valid, plan-cost, digit, worth, cheapest}
 use Rattle.embedding.specs.Charge.{net}
 use Rattle.embedding.proofs.Digits.{digit-lt, number}
-use Rattle.embedding.proofs.Sets.{has-full}
-use Rattle.embedding.proofs.Costs.{Le-antisym, least-low, least-high, least-hit, provided-some}
 use Rattle.embedding.proofs.Mappings.{InRange, plan-iff-mapping}
 use Rattle.embedding.proofs.Services.{worth-ext}
 use Rattle.embedding.proofs.Charges.{everywhere, charges}
@@ -69,8 +70,8 @@ module _ (I : Instance) (W : WellFormed I) where
   unfolding Le cheapest
   cheapest-mapping k = (
     λ e.
-        let h = least-hit (I .s ^ I .r) (λ n. worth I (digit (I .s) n)) k e in
-        let m = worth-mapping (digit (I .s) (h .0)) k .0 (h .2) in
+        let h = least-met (I .s ^ I .r) (λ n. worth I (digit (I .s) n)) k e in
+        let m = worth-mapping (digit (I .s) (h .0)) k .0 (h .2 ∙ e) in
         ((digit (I .s) (h .0), m .0, m .1, m .2, m .3), λ π ρ F L. subst (λ (x : Cost). Le x (some (cost (road I) π ρ))) e (bound π ρ F L)),
     λ h. Le-antisym (cheapest I) (some k)
         (subst (λ (n : ℕ). Le (cheapest I) (some n)) (h .0 .4) (bound (h .0 .0) (h .0 .1) (h .0 .2) (h .0 .3)))

@@ -7,8 +7,6 @@ pub mod Mappings
 pub mod Cut
 pub mod Loads
 pub mod Bound
-pub mod Sets
-pub mod Costs
 pub mod Services
 pub mod Charges
 pub mod Digits

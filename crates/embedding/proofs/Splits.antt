@@ -20,7 +20,7 @@ use Rattle.embedding.specs.Plan.{digit}
 use Rattle.embedding.specs.Splits.{stands, keeps, placeable, weighed}
 use Rattle.embedding.specs.Charge.{net}
 use Rattle.embedding.proofs.Digits.{number}
-use Rattle.embedding.proofs.Costs.{provided-some}
+use Rattle.subsets.proofs.Provided.{provided-some}
 use Rattle.embedding.proofs.Services.{fits-ext, link-keeps-ext}
 use Rattle.embedding.proofs.Charges.{Part, inner, part-cost, stands-placed, part-charges}
 

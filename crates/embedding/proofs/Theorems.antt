@@ -87,7 +87,7 @@ module _ (I : Instance) (W : WellFormed I) where
   cost-bound = bounds.cost-bound I W
 
   -- No charge of a placing on a part of the tree reaches it either.
-  pub charge-bound : (T : ℕ → Bool) (v x : ℕ) (π : ℕ → ℕ) (n : ℕ) → charge (net I) T v x π ≡ some n → n < 10 ^ 15
+  pub charge-bound : (T : ℕ → Bool) (v x : ℕ) (π : ℕ → ℕ) (n : ℕ) → v < I .s → charge (net I) T v x π ≡ some n → n < 10 ^ 15
   charge-bound = bounds.charge-bound I W
 
   -- The charges of all cabinets and links sum to k exactly when the plan is valid at cost k.

@@ -2,7 +2,7 @@
 use Prim.Native.Nat.{ℕ}
 use native.Mathlib.Omega.{arith}
 use mathlib.Core.Path.{_≡_, refl, sym, _∙_}
-use mathlib.Core.Bool.{Bool, true, false, _&&_, _||_, not}
+use mathlib.Core.Bool.{Bool, true, false, _&&_, _||_}
 use mathlib.Core.Logic.{_⊎_, inl, inr}
 use Rattle.finite.specs.Below.{_⇒_}
 
@@ -75,11 +75,3 @@ or-taken v false x e t = clash (sym t ∙ e)
 pub or-left : (v a x : Bool) → v ≡ a → v ≡ false → x ≡ a || x
 or-left v true x e t = clash (sym e ∙ t)
 or-left v false x e t = refl
-
-pub and-taken : (v a x : Bool) → v ≡ a → v ≡ true → x ≡ a && x
-and-taken v true x e t = refl
-and-taken v false x e t = clash (sym t ∙ e)
-
-pub and-left : (v a x : Bool) → v ≡ a → v ≡ false → v ≡ a && x
-and-left v true x e t = clash (sym e ∙ t)
-and-left v false x e t = e

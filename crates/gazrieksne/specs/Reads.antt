@@ -1,7 +1,6 @@
 -- The entry points of the reader: numbers in place of answers.
 use Prim.Native.Nat.{ℕ}
 use mathlib.Core.List.{List, [], _∷_}
-use Rattle.sheet.specs.Reading.{reading}
 use Rattle.sheet.specs.Records.{service-record, cabinet-record, stream-record}
 use Rattle.sheet.specs.Refusals.{number-of, group-of}
 use Rattle.sheet.specs.declared.Reading.{Reading}

@@ -23,7 +23,7 @@ use Rattle.sheet.specs.declared.Refusal.the-variants.{Lender}
 use Rattle.embedding.specs.Plan as plans
 use Rattle.embedding.specs.Plan.{valid, plan-cost, cheapest}
 use Rattle.embedding.specs.Splits.{weighed}
-use Rattle.embedding.proofs.Costs.{provided-some}
+use Rattle.subsets.proofs.Provided.{provided-some}
 use Rattle.embedding.proofs.Services.{worth-ext}
 use Rattle.planner.specs.declared.Planned.{Planned}
 use Rattle.planner.specs.declared.Planned.the-variants.{Plan, Refused}

@@ -23,7 +23,7 @@ use Rattle.embedding.specs.Plan as plans
 use Rattle.embedding.specs.Plan.{in-range, valid, plan-cost, worth, cheapest}
 use Rattle.embedding.specs.Charge.{net}
 use Rattle.embedding.proofs.Mappings.{range-test}
-use Rattle.embedding.proofs.Costs.{provided-some}
+use Rattle.subsets.proofs.Provided.{provided-some}
 use Rattle.embedding.proofs.Services.{worth-ext}
 use Rattle.embedding.proofs.Theorems.{charge-bound, charges, cheapest-least}
 use Rattle.planner.specs.Tables.{entry, cost-entry, choice-entry, Filled}
@@ -39,7 +39,7 @@ module _ (I : Instance) (W : WellFormed I) where
   cheapest-small k e =
       let L = row-root (net I) (W .parents) (full (I .r)) (W .some-cabinet) (full-lt (I .r)) in
       let h = L .hit k (root-cheapest ∙ e) in
-      omega (arith, charge-bound I W (λ d. true) 0 (full (I .r)) (h .0) k (h .2 ∙ root-cheapest ∙ e))
+      omega (arith, charge-bound I W (λ d. true) 0 (full (I .r)) (h .0) k (W .some-cabinet) (h .2 ∙ root-cheapest ∙ e))
 
   module _ (t u : List ℕ) (n : ℕ) (F : Filled I t u n) where
     -- the figure read at the end

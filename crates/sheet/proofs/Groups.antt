@@ -11,8 +11,7 @@ use Rattle.sheet.specs.Reading.{rules, answered, reading}
 use Rattle.sheet.specs.declared.Refusal.{Refusal}
 use Rattle.sheet.specs.declared.Refusal.the-variants.{SheetWriter, Lender, Road, PlanWriter}
 use Rattle.sheet.specs.declared.Sheet.{Sheet}
-use Rattle.sheet.specs.declared.Reading.{Reading}
-use Rattle.sheet.specs.declared.Reading.the-variants.{Accepted, Refused}
+use Rattle.sheet.specs.declared.Reading.the-variants.{Refused}
 
 -- the refusal of a number carries that number
 pub number-refusal : (n : ℕ) → number-of (refusal n) ≡ n

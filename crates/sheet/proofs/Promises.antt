@@ -1,14 +1,14 @@
 -- What the crates above may rely on: an accepted sheet is well formed, and the record calls give its records.
 use Prim.Native.Nat.{ℕ, zero, suc, _+_, _*_, _≤_, _<_}
-use mathlib.Core.Path.{_≡_, refl, sym, ap, _∙_, subst}
-use mathlib.Core.Bool.{Bool, true, false, _&&_, _||_, not}
-use mathlib.Core.List.{List, [], _∷_}
+use mathlib.Core.Path.{_≡_, refl, sym, ap, _∙_}
+use mathlib.Core.Bool.{Bool, true, false, _||_, not}
+use mathlib.Core.List.{List, _∷_}
 use native.Mathlib.Omega.{arith}
 use lib.Dec.{eqb, ltb, leb}
 use lib.ListN.{length}
-use borrow.Author.Tests.{ltb-true, ltb-false, leb-false, eqb-true, eqb-false, lt-ltb, le-ltb, le-leb, eq-eqb, ne-eqb, not-false}
+use borrow.Author.Tests.{ltb-true, ltb-false, leb-false, eqb-true, eqb-false, lt-ltb, le-leb, ne-eqb, not-false}
 use Rattle.finite.specs.Below.{only, any-below}
-use Rattle.finite.proofs.Booleans.{clash, both, neither-l, neither-r}
+use Rattle.finite.proofs.Booleans.{clash}
 use Rattle.finite.proofs.Tests.{none-at}
 use Rattle.sheet.specs.Limits.{max-amount}
 use Rattle.sheet.specs.Layout.{Inside, header, service, cabinet, stream}
@@ -16,12 +16,11 @@ use Rattle.sheet.specs.Conditions.{beyond-limits, some-block-outside, to
 use Rattle.sheet.specs.Refusals.{Rule, lowest}
 use Rattle.sheet.specs.Reading.{rules, answered, reading}
 use Rattle.sheet.specs.Records.{there, service-record, cabinet-record, stream-record}
-use Rattle.sheet.specs.Instance.{Instance, WellFormed, instance}
+use Rattle.sheet.specs.Instance.{WellFormed, instance}
 use Rattle.sheet.specs.declared.Sheet.{Sheet}
 use Rattle.sheet.specs.declared.Cabinet.{Cabinet}
 use Rattle.sheet.specs.declared.Stream.{Stream}
-use Rattle.sheet.specs.declared.Reading.{Reading}
-use Rattle.sheet.specs.declared.Reading.the-variants.{Accepted, Refused}
+use Rattle.sheet.specs.declared.Reading.the-variants.{Accepted}
 use Rattle.sheet.specs.declared.ServiceRecord.the-variants as services
 use Rattle.sheet.specs.declared.CabinetRecord.the-variants as cabinets
 use Rattle.sheet.specs.declared.StreamRecord.the-variants as streams

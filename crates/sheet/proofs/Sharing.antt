@@ -1,11 +1,10 @@
 -- Two blocks share a byte exactly when the later one has a byte and starts before the earlier one ends.
 use Prim.Native.Nat.{ℕ, _+_, _-_, _≤_, _<_}
 use native.Mathlib.Omega.{arith}
-use mathlib.Core.Path.{_≡_, refl, sym, ap, _∙_}
-use mathlib.Core.Bool.{Bool, true, false, _&&_, not}
+use mathlib.Core.Path.{_≡_, ap}
+use mathlib.Core.Bool.{Bool, true, _&&_, not}
 use lib.Dec.{eqb, ltb, leb}
 use borrow.Author.Tests.{ltb-true, leb-true, lt-ltb, le-leb, ne-eqb, not-true, eqb-false}
-use Rattle.finite.specs.Below.{any-below}
 use Rattle.finite.proofs.Booleans.{both, both-l, both-r, same-test}
 use Rattle.finite.proofs.Tests.{any-in, any-at}
 use Rattle.sheet.specs.Conditions.{holds, share}

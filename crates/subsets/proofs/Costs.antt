@@ -178,6 +178,18 @@ least-low (suc n) f d h = go (eqb d n) refl (least-low n f d)
         let q : (d ≡ n → ⊥) = eqb-false d n e in
         Le-trans _ _ _ (lesser-l (least-below n f) (f n)) (ih (omega arith))
 
+-- what is at most every f n is at most the least of them
+pub least-high : (m : ℕ) (f : ℕ → Cost) (x : Cost) → ((n : ℕ) → n < m → Le x (f n)) → Le x (least-below m f)
+unfolding least-below Le lesser
+least-high zero f x h = tt
+least-high (suc m) f x h = meet x (least-below m f) (f m) (least-high m f x (λ n k. h n (omega arith))) (h m (omega arith))
+  where
+    meet : (x y z : Cost) → Le x y → Le x z → Le x (lesser y z)
+    meet x none z p q = q
+    meet x (some b) none p q = p
+    meet none (some b) (some c) p q = p
+    meet (some a) (some b) (some c) p q = omega arith
+
 -- a least that is a number is met
 pub least-met : (n : ℕ) (f : ℕ → Cost) (k : ℕ) → least-below n f ≡ some k → (d : ℕ) × (d < n) × (f d ≡ least-below n f)
 unfolding least-below

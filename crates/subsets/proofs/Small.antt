@@ -7,7 +7,7 @@ use lib.Dec.{eqb, leb}
 use lib.ListN.{getD}
 use Rattle.finite.specs.Below.{only, sum-below, all-below, _⇒_}
 use Rattle.subsets.specs.Sets.{has, subset}
-use Rattle.subsets.specs.Costs.{Cost, none, some, _⊕_, lesser, least-below, provided}
+use Rattle.subsets.specs.Costs.{none, some, _⊕_, lesser, least-below, provided}
 use Rattle.subsets.specs.Net.{Net}
 use Rattle.subsets.specs.Splits.{least-subset, largest-below, winner}
 use Rattle.subsets.specs.Rows.{grown, whole, row-at, choice-at}

@@ -1,5 +1,5 @@
 -- What the planner's definition gives on an accepted sheet with memory enough: the work behind demands 1 and 3.
-use Prim.Native.Nat.{ℕ, zero, suc, _-_, _*_, _^_, _≤_, _<_}
+use Prim.Native.Nat.{ℕ, zero, suc, _-_, _*_, _^_, _≤_}
 use native.Mathlib.Omega.{arith}
 use mathlib.Core.Logic.{_⊎_, inl, inr}
 use mathlib.Core.Path.{_≡_, refl, sym, ap, _∙_, subst}
@@ -20,9 +20,9 @@ use Rattle.sheet.specs.declared.Sheet.{Sheet}
 use Rattle.sheet.specs.declared.Refusal.{Refusal}
 use Rattle.sheet.specs.declared.Reading.{Reading}
 use Rattle.sheet.specs.declared.Reading.the-variants as readings
-use Rattle.sheet.proofs.Groups.{number-refusal, own-group, reading-group}
+use Rattle.sheet.proofs.Groups.{number-refusal, own-group}
 use Rattle.embedding.specs.Plan.{valid, plan-cost, worth, cheapest}
-use Rattle.embedding.proofs.Costs.{provided-some}
+use Rattle.subsets.proofs.Provided.{provided-some}
 use Rattle.embedding.proofs.Services.{worth-ext}
 use Rattle.checker.specs.Check.{place}
 use Rattle.embedding.specs.Splits.{placeable, weighed}

@@ -1,25 +1,19 @@
+-- `say_first` stays within the bytes.
 use mathlib.Core.Path.{sym}
 use lib.Seq.{length-take-le}
 use borrow.Author.Needs.{needs}
 use Rattle.reader_cases.proofs.say_first.Statement.{statement}
 use Rattle.reader_cases.proofs.say_first.Tie as tie
-use Rattle.reader_cases.proofs.say_first.Reads as reads
-use Rattle.reader_cases.proofs.say_first.Lts as lts
-use Rattle.reader_cases.proofs.say.Reads as say-reads
 
--- src/main.rt:39:20
 slice-aggregate-say : tie.Need-slice-aggregate-say
 slice-aggregate-say c = sym (length-take-le _ _ (c .before .if1 .taken))
 
--- src/main.rt:39:9
 say-requires : tie.Need-say-requires
 say-requires c κs = search needs
 
--- src/main.rt:37:1
 returns : tie.Need-returns
 returns c = search needs
 
--- src/main.rt:37:1
 returns-2 : tie.Need-returns-2
 returns-2 c = search needs
 

@@ -1,11 +1,11 @@
-use Rattle.sheet.specs.declared.Sheet.{Sheet}
 -- `read` answers refusal 1, 2 or 3, or what the blocks give.
+use Rattle.sheet.specs.declared.Sheet.{Sheet}
 use mathlib.Core.Path.{_≡_, sym, ap, _∙_}
 use mathlib.Core.Bool.{true, false, not}
 use Prim.Native.Nat.{ℕ}
-use lib.ListN.{length, drop}
+use lib.ListN.{drop}
 use borrow.Author.Tests.{lt-ltb, le-ltb, eq-eqb, ne-eqb}
-use Rattle.sheet.specs.Layout.{Bounded, Inside, header}
+use Rattle.sheet.specs.Layout.{header}
 use Rattle.sheet.specs.Conditions.{beyond-limits}
 use Rattle.sheet.specs.Refusals.{lowest, refusal}
 use Rattle.sheet.specs.Reading.{rules, answered, reading}
@@ -40,20 +40,16 @@ unfolding rules
 past3 c =
     past2 (c .before .before) ∙ pass _ _ (ap not (eq-eqb _ _ (sym (c .before .word .ensures .0) ∙ c .if3 .left)))
 
--- src/lib.rt:93:9
 returns : tie.Need-returns
 unfolding reading answered rules refusal
 returns c = sym (ap (λ (n : ℕ). answered n (header (c .before .before .args .bytes .now))) (stop _ _ (lt-ltb _ _ (c .if1 .taken))))
 
--- src/lib.rt:95:9
 read-header-requires : tie.Need-read-header-requires
 read-header-requires c κs = search needs
 
--- src/lib.rt:96:8
 is-beyond-limits-requires : tie.Need-is-beyond-limits-requires
 is-beyond-limits-requires c κs = search needs
 
--- src/lib.rt:97:9
 returns-2 : tie.Need-returns-2
 unfolding reading answered rules refusal
 returns-2 c =
@@ -61,18 +57,15 @@ returns-2 c =
     sym (c .before .is-beyond-limits .ensures ∙ ap (λ (h : Sheet). beyond-limits h (c .before .before .before .before .before .args .bytes .now)) (c .before .before .read-header .ensures .0)) ∙ c .if2 .taken in
     sym (ap (λ (n : ℕ). answered n (header (c .before .before .before .before .before .args .bytes .now))) (past1 (c .before .before .before) ∙ stop _ _ e))
 
--- src/lib.rt:99:8
 word-requires : tie.Need-word-requires
 word-requires c κs = search needs
 
--- src/lib.rt:100:9
 returns-3 : tie.Need-returns-3
 unfolding reading answered rules refusal
 returns-3 c =
     sym (ap (λ (n : ℕ). answered n (header (c .before .before .before .before .before .before .before .args .bytes .now)))
     (past2 (c .before .before) ∙ stop _ _ (ap not (ne-eqb _ _ (λ e. c .if3 .taken (c .before .word .ensures .0 ∙ e))))))
 
--- src/lib.rt:102:5
 read-blocks-requires : tie.Need-read-blocks-requires
 read-blocks-requires c κs = (
   c .before .before .before .before .read-header .ensures .0,
@@ -83,7 +76,6 @@ read-blocks-requires c κs = (
       (c .before .before .before .before .read-header .ensures .3),
 )
 
--- src/lib.rt:89:1
 returns-4 : tie.Need-returns-4
 unfolding reading
 returns-4 c =

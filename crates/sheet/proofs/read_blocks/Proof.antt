@@ -1,14 +1,13 @@
-use Rattle.sheet.specs.declared.Sheet.{Sheet}
 -- `read_blocks` answers refusal 4 or 5, or what the records give.
+use Rattle.sheet.specs.declared.Sheet.{Sheet}
 use mathlib.Core.Path.{_≡_, sym, ap, _∙_}
-use mathlib.Core.Bool.{true, false, not}
+use mathlib.Core.Bool.{true, false}
 use Prim.Native.Nat.{ℕ}
 use lib.ListN.{length, drop}
-use borrow.Author.Tests.{lt-ltb, le-ltb, eq-eqb, ne-eqb}
-use Rattle.sheet.specs.Layout.{Bounded, Inside, header}
+use Rattle.sheet.specs.Layout.{header}
 use Rattle.sheet.specs.Conditions.{some-block-outside, some-blocks-share}
 use Rattle.sheet.specs.Refusals.{lowest, refusal}
-use Rattle.sheet.specs.Reading.{rules, answered, reading}
+use Rattle.sheet.specs.Reading.{rules, answered}
 use Rattle.sheet.proofs.Ladder.{pass, stop}
 use Rattle.sheet.proofs.Passed.{inside}
 use borrow.Author.Needs.{needs}
@@ -37,11 +36,9 @@ past2 c =
     sym (c .before .any-share .ensures ∙ ap (λ (h : Sheet). some-blocks-share h) (c .before .before .before .before .before .pre .0)) ∙ c .if2 .left in
     past1 (c .before .before) ∙ pass _ _ e
 
--- src/lib.rt:110:8
 any-outside-requires : tie.Need-any-outside-requires
 any-outside-requires c κs = search needs
 
--- src/lib.rt:111:9
 returns : tie.Need-returns
 unfolding rules refusal answered
 returns c =
@@ -49,11 +46,9 @@ returns c =
     sym (c .before .any-outside .ensures ∙ ap (λ (h : Sheet). some-block-outside h (length (c .before .before .before .args .bytes .now))) (c .before .before .before .pre .0)) ∙ c .if1 .taken in
     sym (ap (λ (n : ℕ). answered n (c .before .before .before .args .sheet)) (stop _ _ e))
 
--- src/lib.rt:113:8
 any-share-requires : tie.Need-any-share-requires
 any-share-requires c κs = search needs
 
--- src/lib.rt:114:9
 returns-2 : tie.Need-returns-2
 unfolding rules refusal answered
 returns-2 c =
@@ -61,14 +56,12 @@ returns-2 c =
     sym (c .before .any-share .ensures ∙ ap (λ (h : Sheet). some-blocks-share h) (c .before .before .before .before .before .pre .0)) ∙ c .if2 .taken in
     sym (ap (λ (n : ℕ). answered n (c .before .before .before .before .before .args .sheet)) (past1 (c .before .before) ∙ stop _ _ e))
 
--- src/lib.rt:116:5
 read-records-requires : tie.Need-read-records-requires
 read-records-requires c κs = (
   c .before .before .before .before .before .pre .0,
   inside _ _ (c .before .before .before .before .before .pre .1 .some-cabinet) (sym (c .before .before .before .any-outside .ensures) ∙ c .before .before .if1 .left),
 )
 
--- src/lib.rt:106:1
 returns-3 : tie.Need-returns-3
 returns-3 c = c .read-records .ensures ∙ sym (ap (λ (n : ℕ). answered n (c .before .before .before .before .before .before .args .sheet)) (past2 (c .before)))
 

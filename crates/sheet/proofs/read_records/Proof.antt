@@ -1,14 +1,13 @@
-use Rattle.sheet.specs.declared.Sheet.{Sheet}
 -- `read_records` answers the lowest of refusals 6 to 9, or the sheet: each test that is passed leaves fewer.
+use Rattle.sheet.specs.declared.Sheet.{Sheet}
 use mathlib.Core.Path.{_≡_, sym, ap, _∙_}
-use mathlib.Core.Bool.{true, false, not}
+use mathlib.Core.Bool.{true, false}
 use Prim.Native.Nat.{ℕ}
-use lib.ListN.{length, drop}
-use borrow.Author.Tests.{lt-ltb, le-ltb, eq-eqb, ne-eqb}
-use Rattle.sheet.specs.Layout.{Bounded, Inside, header}
+use lib.ListN.{drop}
+use Rattle.sheet.specs.Layout.{header}
 use Rattle.sheet.specs.Conditions.{some-amount-too-high, some-parent-wrong, some-ends-wrong, root-linked}
 use Rattle.sheet.specs.Refusals.{lowest, refusal}
-use Rattle.sheet.specs.Reading.{rules, answered, reading}
+use Rattle.sheet.specs.Reading.{rules, answered}
 use Rattle.sheet.proofs.Ladder.{pass, stop}
 use borrow.Author.Needs.{needs}
 use Rattle.sheet.proofs.read_records.Statement.{statement}
@@ -51,11 +50,9 @@ past4 c =
     sym (c .before .is-root-linked .ensures ∙ ap (λ (h : Sheet). root-linked h (c .before .before .before .before .before .before .before .before .before .args .bytes .now)) (c .before .before .before .before .before .before .before .before .before .pre .0)) ∙ c .if4 .left in
     past3 (c .before .before) ∙ pass _ _ e
 
--- src/lib.rt:124:8
 is-amount-too-high-requires : tie.Need-is-amount-too-high-requires
 is-amount-too-high-requires c κs = search needs
 
--- src/lib.rt:125:9
 returns : tie.Need-returns
 unfolding rules refusal answered
 returns c =
@@ -63,11 +60,9 @@ returns c =
     sym (c .before .is-amount-too-high .ensures ∙ ap (λ (h : Sheet). some-amount-too-high h (c .before .before .before .args .bytes .now)) (c .before .before .before .pre .0)) ∙ c .if1 .taken in
     sym (ap (λ (n : ℕ). answered n (c .before .before .before .args .sheet)) (stop _ _ e))
 
--- src/lib.rt:127:8
 is-parent-wrong-requires : tie.Need-is-parent-wrong-requires
 is-parent-wrong-requires c κs = search needs
 
--- src/lib.rt:128:9
 returns-2 : tie.Need-returns-2
 unfolding rules refusal answered
 returns-2 c =
@@ -75,11 +70,9 @@ returns-2 c =
     sym (c .before .is-parent-wrong .ensures ∙ ap (λ (h : Sheet). some-parent-wrong h (c .before .before .before .before .before .args .bytes .now)) (c .before .before .before .before .before .pre .0)) ∙ c .if2 .taken in
     sym (ap (λ (n : ℕ). answered n (c .before .before .before .before .before .args .sheet)) (past1 (c .before .before) ∙ stop _ _ e))
 
--- src/lib.rt:130:8
 is-end-wrong-requires : tie.Need-is-end-wrong-requires
 is-end-wrong-requires c κs = search needs
 
--- src/lib.rt:131:9
 returns-3 : tie.Need-returns-3
 unfolding rules refusal answered
 returns-3 c =
@@ -87,11 +80,9 @@ returns-3 c =
     sym (c .before .is-end-wrong .ensures ∙ ap (λ (h : Sheet). some-ends-wrong h (c .before .before .before .before .before .before .before .args .bytes .now)) (c .before .before .before .before .before .before .before .pre .0)) ∙ c .if3 .taken in
     sym (ap (λ (n : ℕ). answered n (c .before .before .before .before .before .before .before .args .sheet)) (past2 (c .before .before) ∙ stop _ _ e))
 
--- src/lib.rt:133:8
 is-root-linked-requires : tie.Need-is-root-linked-requires
 is-root-linked-requires c κs = search needs
 
--- src/lib.rt:134:9
 returns-4 : tie.Need-returns-4
 unfolding rules refusal answered
 returns-4 c =
@@ -99,7 +90,6 @@ returns-4 c =
     sym (c .before .is-root-linked .ensures ∙ ap (λ (h : Sheet). root-linked h (c .before .before .before .before .before .before .before .before .before .args .bytes .now)) (c .before .before .before .before .before .before .before .before .before .pre .0)) ∙ c .if4 .taken in
     sym (ap (λ (n : ℕ). answered n (c .before .before .before .before .before .before .before .before .before .args .sheet)) (past3 (c .before .before) ∙ stop _ _ e))
 
--- src/lib.rt:120:1
 returns-5 : tie.Need-returns-5
 unfolding rules lowest answered
 returns-5 c = sym (ap (λ (n : ℕ). answered n (c .before .before .before .before .before .before .before .before .before .args .sheet)) (past4 c))

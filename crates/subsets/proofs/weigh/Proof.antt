@@ -1,7 +1,7 @@
 -- `subsets::weigh` meets its contract: a sum of three costs does not wrap, and no other sum is used.
 use Prim.Native.Nat.{ℕ, _+_, _%_, _^_, _≤_, min}
 use native.Mathlib.Omega.{arith}
-use mathlib.Core.Path.{_≡_, refl, sym, _∙_, ap}
+use mathlib.Core.Path.{_≡_, refl, _∙_, ap}
 use mathlib.Core.Bool.{Bool, true, false, _&&_, cond}
 use borrow.Author.Needs.{needs}
 use borrow.Author.Tests.{leb-true}

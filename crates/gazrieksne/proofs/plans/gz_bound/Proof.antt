@@ -1,46 +1,33 @@
+-- `gz_bound` meets its contract: what the bound answers, as numbers.
 use mathlib.Core.Path.{sym, ap, _∙_}
 use Rattle.gazrieksne.specs.Plans.{bound-number, bound-answer}
 use borrow.Author.Needs.{needs}
 use Rattle.gazrieksne.proofs.plans.gz_bound.Statement.{statement}
 use Rattle.gazrieksne.proofs.plans.gz_bound.Tie as tie
-use Rattle.gazrieksne.proofs.plans.gz_bound.Reads as reads
-use Rattle.gazrieksne.proofs.plans.gz_bound.Lts as lts
-use Rattle.gazrieksne.proofs.reads.wide.Reads as wide-reads
-use Rattle.planner.proofs.bound.Reads as bound-reads
-use Rattle.sheet.proofs.Refusal.group.Reads as group-reads
-use Rattle.sheet.proofs.Refusal.number.Reads as number-reads
 
--- src/plans.rt:50:11
 bound-requires : tie.Need-bound-requires
 bound-requires c κs = search needs
 
--- src/plans.rt:51:28
 enum-known-n : tie.Need-enum-known-n
 enum-known-n c = search needs
 
--- src/plans.rt:55:29
 enum-known-refusal : tie.Need-enum-known-refusal
 enum-known-refusal c = search needs
 
--- src/plans.rt:56:24
 group-requires : tie.Need-group-requires
 group-requires c κs = search needs
 
--- src/plans.rt:57:18
 number-requires : tie.Need-number-requires
 number-requires c κs = search needs
 
--- src/plans.rt:57:13
 wide-requires : tie.Need-wide-requires
 wide-requires c κs = search needs
 
--- src/plans.rt:45:1
 returns : tie.Need-returns
 returns c =
     let e = sym (c .before .before .before .before .bound .ensures) ∙ c .before .before .n .given .1 in
     (sym (ap bound-number e), sym (ap bound-answer e))
 
--- src/plans.rt:45:1
 returns-2 : tie.Need-returns-2
 returns-2 c =
     let e = sym (c .before .before .before .before .before .before .before .bound .ensures) ∙ c .before .before .before .before .before .refusal .given .1 in (

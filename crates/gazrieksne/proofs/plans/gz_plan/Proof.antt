@@ -1,3 +1,4 @@
+-- `gz_plan` meets its contract: the planner's promises, with its answer as numbers.
 use mathlib.Core.Path.{ap, _∙_, subst}
 use Rattle.sheet.specs.Instance.{instance}
 use Rattle.planner.specs.Lent.{table-after, OutputAfter}
@@ -7,32 +8,22 @@ use Rattle.gazrieksne.specs.Plans.{plan-answer}
 use borrow.Author.Needs.{needs}
 use Rattle.gazrieksne.proofs.plans.gz_plan.Statement.{statement}
 use Rattle.gazrieksne.proofs.plans.gz_plan.Tie as tie
-use Rattle.gazrieksne.proofs.plans.gz_plan.Reads as reads
-use Rattle.gazrieksne.proofs.plans.gz_plan.Lts as lts
-use Rattle.gazrieksne.proofs.plans.tell.Reads as tell-reads
-use Rattle.planner.proofs.plan.Reads as plan-reads
 
--- src/plans.rt:40:9
 plan-requires : tie.Need-plan-requires
 plan-requires c κs = search needs
 
--- src/plans.rt:41:5
 tell-requires : tie.Need-tell-requires
 tell-requires c κs = search needs
 
--- src/plans.rt:32:1
 same-length : tie.Need-same-length
 same-length c = search needs
 
--- src/plans.rt:32:1
 same-length-2 : tie.Need-same-length-2
 same-length-2 c = search needs
 
--- src/plans.rt:32:1
 same-length-3 : tie.Need-same-length-3
 same-length-3 c = search needs
 
--- src/plans.rt:32:1
 returns : tie.Need-returns
 returns c =
     let a = c .before .before .before .before .before .before .before .before .before .before .before .before .before .before .before .before .args in

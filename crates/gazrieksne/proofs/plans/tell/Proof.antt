@@ -1,42 +1,31 @@
+-- `tell` meets its contract, for a plan and for a refusal.
 use mathlib.Core.Path.{sym, ap, _∙_}
 use Rattle.planner.specs.Answers.{number}
 use Rattle.gazrieksne.specs.Plans.{plan-answer}
 use borrow.Author.Needs.{needs}
 use Rattle.gazrieksne.proofs.plans.tell.Statement.{statement}
 use Rattle.gazrieksne.proofs.plans.tell.Tie as tie
-use Rattle.gazrieksne.proofs.plans.tell.Reads as reads
-use Rattle.gazrieksne.proofs.plans.tell.Lts as lts
-use Rattle.gazrieksne.proofs.reads.wide.Reads as wide-reads
-use Rattle.sheet.proofs.Refusal.group.Reads as group-reads
-use Rattle.sheet.proofs.Refusal.number.Reads as number-reads
 
--- src/plans.rt:20:25
 enum-known-answered : tie.Need-enum-known-answered
 enum-known-answered c = search needs
 
--- src/plans.rt:24:26
 enum-known-answered-2 : tie.Need-enum-known-answered-2
 enum-known-answered-2 c = search needs
 
--- src/plans.rt:25:24
 group-requires : tie.Need-group-requires
 group-requires c κs = search needs
 
--- src/plans.rt:26:18
 number-requires : tie.Need-number-requires
 number-requires c κs = search needs
 
--- src/plans.rt:26:13
 wide-requires : tie.Need-wide-requires
 wide-requires c κs = search needs
 
--- src/plans.rt:15:1
 returns : tie.Need-returns
 returns c =
     let e = c .before .before .answered .given .1 in
     (sym (ap number e), sym (ap plan-answer e))
 
--- src/plans.rt:15:1
 returns-2 : tie.Need-returns-2
 returns-2 c =
     let e = c .before .before .before .before .before .answered2 .given .1 in (

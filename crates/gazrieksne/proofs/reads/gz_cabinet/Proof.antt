@@ -1,32 +1,25 @@
+-- `gz_cabinet` meets its contract: the record is written where there is one.
 use mathlib.Core.Path.{sym, ap, _∙_}
 use Rattle.sheet.specs.declared.CabinetRecord.{CabinetRecord}
 use Rattle.gazrieksne.specs.Reads.{cabinet-flag, cabinet-words}
 use borrow.Author.Needs.{needs}
 use Rattle.gazrieksne.proofs.reads.gz_cabinet.Statement.{statement}
 use Rattle.gazrieksne.proofs.reads.gz_cabinet.Tie as tie
-use Rattle.gazrieksne.proofs.reads.gz_cabinet.Reads as reads
-use Rattle.gazrieksne.proofs.reads.gz_cabinet.Lts as lts
-use Rattle.gazrieksne.proofs.reads.find_cabinet.Reads as find-cabinet-reads
 
--- src/reads.rt:78:35
 find-cabinet-requires : tie.Need-find-cabinet-requires
 find-cabinet-requires c κs = search needs
 
--- src/reads.rt:78:30
 enum-known-k : tie.Need-enum-known-k
 enum-known-k c = search needs
 
--- src/reads.rt:79:9
 enum-told : tie.Need-enum-told
 enum-told c = search needs
 
--- src/reads.rt:79:9
 returns : tie.Need-returns
 returns c =
     let e = sym (c .before .before .find-cabinet .ensures) ∙ c .enum-told .given .1 in
     (sym (ap cabinet-flag e), sym (ap (λ (o : CabinetRecord). cabinet-words o (c .before .before .before .before .args .words .now)) e))
 
--- src/reads.rt:73:1
 returns-2 : tie.Need-returns-2
 returns-2 c =
     let e = sym (c .before .before .before .before .find-cabinet .ensures) ∙ c .before .before .k .given .1 in

@@ -1,32 +1,25 @@
+-- `gz_stream` meets its contract: the record is written where there is one.
 use mathlib.Core.Path.{sym, ap, _∙_}
 use Rattle.sheet.specs.declared.StreamRecord.{StreamRecord}
 use Rattle.gazrieksne.specs.Reads.{stream-flag, stream-words}
 use borrow.Author.Needs.{needs}
 use Rattle.gazrieksne.proofs.reads.gz_stream.Statement.{statement}
 use Rattle.gazrieksne.proofs.reads.gz_stream.Tie as tie
-use Rattle.gazrieksne.proofs.reads.gz_stream.Reads as reads
-use Rattle.gazrieksne.proofs.reads.gz_stream.Lts as lts
-use Rattle.gazrieksne.proofs.reads.find_stream.Reads as find-stream-reads
 
--- src/reads.rt:99:34
 find-stream-requires : tie.Need-find-stream-requires
 find-stream-requires c κs = search needs
 
--- src/reads.rt:99:29
 enum-known-t : tie.Need-enum-known-t
 enum-known-t c = search needs
 
--- src/reads.rt:100:9
 enum-told : tie.Need-enum-told
 enum-told c = search needs
 
--- src/reads.rt:100:9
 returns : tie.Need-returns
 returns c =
     let e = sym (c .before .before .find-stream .ensures) ∙ c .enum-told .given .1 in
     (sym (ap stream-flag e), sym (ap (λ (o : StreamRecord). stream-words o (c .before .before .before .before .args .words .now)) e))
 
--- src/reads.rt:94:1
 returns-2 : tie.Need-returns-2
 returns-2 c =
     let e = sym (c .before .before .before .before .find-stream .ensures) ∙ c .before .before .t .given .1 in

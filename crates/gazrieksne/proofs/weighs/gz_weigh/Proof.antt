@@ -1,18 +1,14 @@
+-- `gz_weigh` meets its contract: what weighing answers, as numbers.
 use mathlib.Core.Path.{ap}
 use mathlib.Core.List.{_∷_, []}
 use Rattle.subsets.specs.declared.Weighed.{Weighed}
 use borrow.Author.Needs.{needs}
 use Rattle.gazrieksne.proofs.weighs.gz_weigh.Statement.{statement}
 use Rattle.gazrieksne.proofs.weighs.gz_weigh.Tie as tie
-use Rattle.gazrieksne.proofs.weighs.gz_weigh.Reads as reads
-use Rattle.gazrieksne.proofs.weighs.gz_weigh.Lts as lts
-use Rattle.subsets.proofs.weigh.Reads as weigh-reads
 
--- src/weighs.rt:12:9
 weigh-requires : tie.Need-weigh-requires
 weigh-requires c κs = search needs
 
--- src/weighs.rt:7:1
 returns : tie.Need-returns
 returns c =
     (ap (λ (w : Weighed). w .counted) (c .before .weigh .ensures), ap (λ (w : Weighed). w .best ∷ []) (c .before .weigh .ensures))

@@ -1,3 +1,4 @@
+-- `Sheet::cabinet` meets its contract: a record that is there lies within the bytes.
 use Prim.Native.Nat.{ℕ}
 use mathlib.Core.Path.{sym, ap, _∙_}
 use mathlib.Core.List.{List}
@@ -11,39 +12,28 @@ use Rattle.sheet.proofs.There.{there-fits}
 use borrow.Author.Needs.{needs}
 use Rattle.sheet.proofs.Sheet.cabinet.Statement.{statement}
 use Rattle.sheet.proofs.Sheet.cabinet.Tie as tie
-use Rattle.sheet.proofs.Sheet.cabinet.Reads as reads
-use Rattle.sheet.proofs.Sheet.cabinet.Lts as lts
-use Rattle.sheet.proofs.records.is_there.Reads as is-there-reads
-use Rattle.sheet.proofs.records.read_cabinet.Reads as read-cabinet-reads
 
--- src/lib.rt:176:12
 is-there-requires : tie.Need-is-there-requires
 is-there-requires c κs = search needs
 
--- src/lib.rt:177:54
 sub-read-cabinet : tie.Need-sub-read-cabinet
 sub-read-cabinet c = omega (arith, there-fits _ 14 (c .before .before .before .args .self .«cabinets_at») (length (c .before .before .before .args .bytes .now)) (c .before .before .before .args .c) (sym (c .before .is-there .ensures) ∙ c .if1 .taken))
 
--- src/lib.rt:177:54
 part-read-cabinet-start : tie.Need-part-read-cabinet-start
 part-read-cabinet-start c = omega (arith, there-fits _ 14 (c .before .before .before .args .self .«cabinets_at») (length (c .before .before .before .args .bytes .now)) (c .before .before .before .args .c) (sym (c .before .is-there .ensures) ∙ c .if1 .taken))
 
--- src/lib.rt:177:54
 part-read-cabinet-end : tie.Need-part-read-cabinet-end
 part-read-cabinet-end c = search needs
 
--- src/lib.rt:177:41
 read-cabinet-requires : tie.Need-read-cabinet-requires
 read-cabinet-requires c κs = simp (part-to-end, length-drop) (omega (arith, there-fits _ 14 (c .before .before .before .before .args .self .«cabinets_at») (length (c .before .before .before .before .args .bytes .now)) (c .before .before .before .before .args .c) (sym (c .before .before .is-there .ensures) ∙ c .before .if1 .taken)))
 
--- src/lib.rt:177:13
 returns : tie.Need-returns
 unfolding cabinet-record cabinet
 returns c =
     simp (sym (c .before .before .before .is-there .ensures) ∙ c .before .before .if1 .taken)
     (ap cabinets.Given (c .read-cabinet .ensures ∙ ap (λ (block : List ℕ). cabinet-in block (c .before .before .before .before .before .args .c)) (part-to-end _ (c .before .before .before .before .before .args .self .«cabinets_at»))))
 
--- src/lib.rt:172:5
 returns-2 : tie.Need-returns-2
 unfolding cabinet-record
 returns-2 c = simp (sym (c .before .is-there .ensures) ∙ c .if1 .left)

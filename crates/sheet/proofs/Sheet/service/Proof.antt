@@ -1,3 +1,4 @@
+-- `Sheet::service` meets its contract: a record that is there lies within the bytes.
 use Prim.Native.Nat.{ℕ}
 use mathlib.Core.Path.{sym, ap, _∙_}
 use mathlib.Core.List.{List}
@@ -11,39 +12,28 @@ use Rattle.sheet.proofs.There.{there-fits}
 use borrow.Author.Needs.{needs}
 use Rattle.sheet.proofs.Sheet.service.Statement.{statement}
 use Rattle.sheet.proofs.Sheet.service.Tie as tie
-use Rattle.sheet.proofs.Sheet.service.Reads as reads
-use Rattle.sheet.proofs.Sheet.service.Lts as lts
-use Rattle.sheet.proofs.records.is_there.Reads as is-there-reads
-use Rattle.sheet.proofs.records.read_service.Reads as read-service-reads
 
--- src/lib.rt:165:12
 is-there-requires : tie.Need-is-there-requires
 is-there-requires c κs = search needs
 
--- src/lib.rt:166:54
 sub-read-service : tie.Need-sub-read-service
 sub-read-service c = omega (arith, there-fits _ 2 (c .before .before .before .args .self .«services_at») (length (c .before .before .before .args .bytes .now)) (c .before .before .before .args .i) (sym (c .before .is-there .ensures) ∙ c .if1 .taken))
 
--- src/lib.rt:166:54
 part-read-service-start : tie.Need-part-read-service-start
 part-read-service-start c = omega (arith, there-fits _ 2 (c .before .before .before .args .self .«services_at») (length (c .before .before .before .args .bytes .now)) (c .before .before .before .args .i) (sym (c .before .is-there .ensures) ∙ c .if1 .taken))
 
--- src/lib.rt:166:54
 part-read-service-end : tie.Need-part-read-service-end
 part-read-service-end c = search needs
 
--- src/lib.rt:166:41
 read-service-requires : tie.Need-read-service-requires
 read-service-requires c κs = simp (part-to-end, length-drop) (omega (arith, there-fits _ 2 (c .before .before .before .before .args .self .«services_at») (length (c .before .before .before .before .args .bytes .now)) (c .before .before .before .before .args .i) (sym (c .before .before .is-there .ensures) ∙ c .before .if1 .taken)))
 
--- src/lib.rt:166:13
 returns : tie.Need-returns
 unfolding service-record service
 returns c =
     simp (sym (c .before .before .before .is-there .ensures) ∙ c .before .before .if1 .taken)
     (ap services.Given (c .read-service .ensures ∙ ap (λ (block : List ℕ). service-in block (c .before .before .before .before .before .args .i)) (part-to-end _ (c .before .before .before .before .before .args .self .«services_at»))))
 
--- src/lib.rt:161:5
 returns-2 : tie.Need-returns-2
 unfolding service-record
 returns-2 c = simp (sym (c .before .is-there .ensures) ∙ c .if1 .left)

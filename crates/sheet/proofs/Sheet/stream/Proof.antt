@@ -1,3 +1,4 @@
+-- `Sheet::stream` meets its contract: a record that is there lies within the bytes.
 use Prim.Native.Nat.{ℕ}
 use mathlib.Core.Path.{sym, ap, _∙_}
 use mathlib.Core.List.{List}
@@ -11,39 +12,28 @@ use Rattle.sheet.proofs.There.{there-fits}
 use borrow.Author.Needs.{needs}
 use Rattle.sheet.proofs.Sheet.stream.Statement.{statement}
 use Rattle.sheet.proofs.Sheet.stream.Tie as tie
-use Rattle.sheet.proofs.Sheet.stream.Reads as reads
-use Rattle.sheet.proofs.Sheet.stream.Lts as lts
-use Rattle.sheet.proofs.records.is_there.Reads as is-there-reads
-use Rattle.sheet.proofs.records.read_stream.Reads as read-stream-reads
 
--- src/lib.rt:187:12
 is-there-requires : tie.Need-is-there-requires
 is-there-requires c κs = search needs
 
--- src/lib.rt:188:52
 sub-read-stream : tie.Need-sub-read-stream
 sub-read-stream c = omega (arith, there-fits _ 6 (c .before .before .before .args .self .«streams_at») (length (c .before .before .before .args .bytes .now)) (c .before .before .before .args .j) (sym (c .before .is-there .ensures) ∙ c .if1 .taken))
 
--- src/lib.rt:188:52
 part-read-stream-start : tie.Need-part-read-stream-start
 part-read-stream-start c = omega (arith, there-fits _ 6 (c .before .before .before .args .self .«streams_at») (length (c .before .before .before .args .bytes .now)) (c .before .before .before .args .j) (sym (c .before .is-there .ensures) ∙ c .if1 .taken))
 
--- src/lib.rt:188:52
 part-read-stream-end : tie.Need-part-read-stream-end
 part-read-stream-end c = search needs
 
--- src/lib.rt:188:40
 read-stream-requires : tie.Need-read-stream-requires
 read-stream-requires c κs = simp (part-to-end, length-drop) (omega (arith, there-fits _ 6 (c .before .before .before .before .args .self .«streams_at») (length (c .before .before .before .before .args .bytes .now)) (c .before .before .before .before .args .j) (sym (c .before .before .is-there .ensures) ∙ c .before .if1 .taken)))
 
--- src/lib.rt:188:13
 returns : tie.Need-returns
 unfolding stream-record stream
 returns c =
     simp (sym (c .before .before .before .is-there .ensures) ∙ c .before .before .if1 .taken)
     (ap streams.Given (c .read-stream .ensures ∙ ap (λ (block : List ℕ). stream-in block (c .before .before .before .before .before .args .j)) (part-to-end _ (c .before .before .before .before .before .args .self .«streams_at»))))
 
--- src/lib.rt:183:5
 returns-2 : tie.Need-returns-2
 unfolding stream-record
 returns-2 c = simp (sym (c .before .is-there .ensures) ∙ c .if1 .left)

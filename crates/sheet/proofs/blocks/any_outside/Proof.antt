@@ -23,36 +23,28 @@ first c =
     (λ w. w .1 ∙ or-left _ _ _ refl (w .0 .left))
     (c .if1 .came)
 
--- src/blocks.rt:31:48
 mul-is-outside : tie.Need-mul-is-outside
 mul-is-outside c = search needs
 
--- src/blocks.rt:31:9
 is-outside-requires : tie.Need-is-outside-requires
 is-outside-requires c κs = search needs
 
--- src/blocks.rt:32:48
 mul-is-outside-2 : tie.Need-mul-is-outside-2
 mul-is-outside-2 c = search needs
 
--- src/blocks.rt:32:9
 is-outside-requires-2 : tie.Need-is-outside-requires-2
 is-outside-requires-2 c κs = search needs
 
--- src/blocks.rt:33:47
 mul-is-outside-3 : tie.Need-mul-is-outside-3
 mul-is-outside-3 c = search needs
 
--- src/blocks.rt:33:9
 is-outside-requires-3 : tie.Need-is-outside-requires-3
 is-outside-requires-3 c κs = search needs
 
--- src/blocks.rt:27:1
 returns : tie.Need-returns
 unfolding some-block-outside
 returns c = or-taken _ _ (c .before .before .is-outside3 .result) (first (c .before)) (c .if2 .taken) ∙ ap₂ _||_ (ap₂ _||_ (c .before .before .before .before .before .before .is-outside .ensures) (c .before .before .before .before .is-outside2 .ensures)) (c .before .before .is-outside3 .ensures)
 
--- src/blocks.rt:27:1
 returns-2 : tie.Need-returns-2
 unfolding some-block-outside
 returns-2 c = or-left _ _ _ (first (c .before)) (c .if2 .left) ∙ ap₂ _||_ (ap₂ _||_ (c .before .before .before .before .before .before .is-outside .ensures) (c .before .before .before .before .is-outside2 .ensures)) (c .before .before .is-outside3 .ensures)

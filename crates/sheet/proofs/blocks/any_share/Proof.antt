@@ -23,36 +23,28 @@ first c =
     (λ w. w .1 ∙ or-left _ _ _ refl (w .0 .left))
     (c .if1 .came)
 
--- src/blocks.rt:41:20
 mul-services : tie.Need-mul-services
 mul-services c = search needs
 
--- src/blocks.rt:42:20
 mul-cabinets : tie.Need-mul-cabinets
 mul-cabinets c = search needs
 
--- src/blocks.rt:43:19
 mul-streams : tie.Need-mul-streams
 mul-streams c = search needs
 
--- src/blocks.rt:44:9
 do-share-requires : tie.Need-do-share-requires
 do-share-requires c κs = search needs
 
--- src/blocks.rt:45:9
 do-share-requires-2 : tie.Need-do-share-requires-2
 do-share-requires-2 c κs = search needs
 
--- src/blocks.rt:46:9
 do-share-requires-3 : tie.Need-do-share-requires-3
 do-share-requires-3 c κs = search needs
 
--- src/blocks.rt:37:1
 returns : tie.Need-returns
 unfolding some-blocks-share
 returns c = or-taken _ _ (c .before .before .do-share3 .result) (first (c .before)) (c .if2 .taken) ∙ ap₂ _||_ (ap₂ _||_ (c .before .before .before .before .do-share .ensures) (c .before .before .before .do-share2 .ensures)) (c .before .before .do-share3 .ensures)
 
--- src/blocks.rt:37:1
 returns-2 : tie.Need-returns-2
 unfolding some-blocks-share
 returns-2 c = or-left _ _ _ (first (c .before)) (c .if2 .left) ∙ ap₂ _||_ (ap₂ _||_ (c .before .before .before .before .do-share .ensures) (c .before .before .before .do-share2 .ensures)) (c .before .before .do-share3 .ensures)

@@ -5,29 +5,22 @@ use Rattle.sheet.proofs.Sharing.{share-first, share-second}
 use borrow.Author.Needs.{needs}
 use Rattle.sheet.proofs.blocks.do_share.Statement.{statement}
 use Rattle.sheet.proofs.blocks.do_share.Tie as tie
-use Rattle.sheet.proofs.blocks.do_share.Reads as reads
-use Rattle.sheet.proofs.blocks.do_share.Lts as lts
 
--- src/blocks.rt:22:9
 returns : tie.Need-returns
 returns c =
     sym (share-first (c .before .before .args .a) (c .before .before .args .m) (c .before .before .args .b) (c .before .before .args .n) (c .before .if1 .taken) ∙ simp (ne-eqb _ _ (c .if2 .taken)))
 
--- src/blocks.rt:22:9
 returns-2 : tie.Need-returns-2
 returns-2 c =
     sym (share-first (c .before .before .args .a) (c .before .before .args .m) (c .before .before .args .b) (c .before .before .args .n) (c .before .if1 .taken) ∙ simp (eq-eqb _ _ (c .if2 .left)))
 
--- src/blocks.rt:24:15
 sub-result : tie.Need-sub-result
 sub-result c = search needs
 
--- src/blocks.rt:18:1
 returns-3 : tie.Need-returns-3
 returns-3 c =
     sym (share-second (c .before .before .args .a) (c .before .before .args .m) (c .before .before .args .b) (c .before .before .args .n) (c .before .if1 .left) ∙ simp (ne-eqb _ _ (c .if3 .taken)))
 
--- src/blocks.rt:18:1
 returns-4 : tie.Need-returns-4
 returns-4 c =
     sym (share-second (c .before .before .args .a) (c .before .before .args .m) (c .before .before .args .b) (c .before .before .args .n) (c .before .if1 .left) ∙ simp (eq-eqb _ _ (c .if3 .left)))

@@ -1,21 +1,17 @@
+-- `is_outside` meets its contract.
 use borrow.Author.Tests.{lt-ltb, le-ltb}
 use Rattle.sheet.specs.Conditions.{outside}
 use borrow.Author.Needs.{needs}
 use Rattle.sheet.proofs.blocks.is_outside.Statement.{statement}
 use Rattle.sheet.proofs.blocks.is_outside.Tie as tie
-use Rattle.sheet.proofs.blocks.is_outside.Reads as reads
-use Rattle.sheet.proofs.blocks.is_outside.Lts as lts
 
--- src/blocks.rt:14:33
 add-result : tie.Need-add-result
 add-result c = search needs
 
--- src/blocks.rt:10:1
 returns : tie.Need-returns
 unfolding outside
 returns c = simp (lt-ltb _ _ (c .if1 .taken))
 
--- src/blocks.rt:10:1
 returns-2 : tie.Need-returns-2
 unfolding outside
 returns-2 c = simp (le-ltb _ _ (c .if1 .left))

@@ -1,19 +1,14 @@
-use Prim.Native.Nat.{ℕ, _≤_, _-_}
-use mathlib.Core.Path.{_≡_, refl, sym, ap, _∙_, subst}
-use mathlib.Core.Bool.{Bool, true, false}
+-- `any_ends_wrong` meets its contract, stream by stream.
+use Prim.Native.Nat.{_≤_, _-_}
+use mathlib.Core.Path.{_≡_, sym, ap, _∙_}
+use mathlib.Core.Bool.{false}
 use native.Mathlib.Omega.{arith}
-use borrow.Author.Needs.{needs}
-use borrow.Author.Tests.{lt-ltb, le-ltb}
 use Rattle.finite.specs.Below.{any-below}
 use Rattle.finite.proofs.Tests.{any-in, any-start, any-next, any-end}
 use Rattle.sheet.specs.Layout.{stream-in}
 use Rattle.sheet.specs.Conditions.{wrong-ends}
 use Rattle.sheet.proofs.conditions.any_ends_wrong.Statement.{statement}
 use Rattle.sheet.proofs.conditions.any_ends_wrong.Tie as tie
-use Rattle.sheet.proofs.conditions.any_ends_wrong.Reads as reads
-use Rattle.sheet.proofs.conditions.any_ends_wrong.Lts as lts
-use Rattle.sheet.proofs.conditions.are_wrong_ends.Reads as are-wrong-ends-reads
-use Rattle.sheet.proofs.records.read_stream.Reads as read-stream-reads
 
 abbrev Inv-loop : tie.InvT-loop
 Inv-loop block services count j₀ j = (j ≤ count) × (any-below j (λ k. wrong-ends services (stream-in block k)) ≡ false)
@@ -21,35 +16,27 @@ Inv-loop block services count j₀ j = (j ≤ count) × (any-below j (λ k. wron
 abbrev μ-loop : tie.MeasureT-loop
 μ-loop block services count j₀ j = count - j
 
--- src/conditions.rt:107:5
 loop-holds : tie.Need-loop-holds Inv-loop μ-loop
 loop-holds c = (omega arith, any-start _)
 
--- src/conditions.rt:108:37
 read-stream-requires : tie.Need-read-stream-requires Inv-loop μ-loop
 read-stream-requires c κs = omega arith
 
--- src/conditions.rt:108:12
 are-wrong-ends-requires : tie.Need-are-wrong-ends-requires Inv-loop μ-loop
 are-wrong-ends-requires c κs = omega arith
 
--- src/conditions.rt:109:13
 returns : tie.Need-returns Inv-loop μ-loop
 returns c = sym (any-in _ _ (c .before .before .before .before .loop .j) (omega arith) (sym (c .before .are-wrong-ends .ensures ∙ ap (wrong-ends (c .before .before .before .before .before .before .args .services)) (c .before .before .read-stream .ensures)) ∙ c .if1 .taken))
 
--- src/conditions.rt:111:9
 add-j : tie.Need-add-j Inv-loop μ-loop
 add-j c = omega arith
 
--- src/conditions.rt:107:5
 loop-less : tie.Need-loop-less Inv-loop μ-loop
 loop-less c = omega arith
 
--- src/conditions.rt:107:5
 loop-again : tie.Need-loop-again Inv-loop μ-loop
 loop-again c = (omega arith, any-next _ _ (c .before .before .before .before .loop .inv .1) (sym (c .before .are-wrong-ends .ensures ∙ ap (wrong-ends (c .before .before .before .before .before .before .args .services)) (c .before .before .read-stream .ensures)) ∙ c .if1 .left))
 
--- src/conditions.rt:102:1
 returns-2 : tie.Need-returns-2 Inv-loop μ-loop
 returns-2 c = any-end _ _ _ (omega arith) (omega arith) (c .before .loop .inv .1)
 

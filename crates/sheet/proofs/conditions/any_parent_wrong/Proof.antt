@@ -1,19 +1,14 @@
-use Prim.Native.Nat.{ℕ, _≤_, _-_}
-use mathlib.Core.Path.{_≡_, refl, sym, ap, _∙_, subst}
-use mathlib.Core.Bool.{Bool, true, false}
+-- `any_parent_wrong` meets its contract, cabinet by cabinet.
+use Prim.Native.Nat.{_≤_, _-_}
+use mathlib.Core.Path.{_≡_, sym, ap, _∙_}
+use mathlib.Core.Bool.{false}
 use native.Mathlib.Omega.{arith}
-use borrow.Author.Needs.{needs}
-use borrow.Author.Tests.{lt-ltb, le-ltb}
 use Rattle.finite.specs.Below.{any-below}
 use Rattle.finite.proofs.Tests.{any-in, any-start, any-next, any-end}
 use Rattle.sheet.specs.Layout.{cabinet-in}
 use Rattle.sheet.specs.Conditions.{wrong-parent}
 use Rattle.sheet.proofs.conditions.any_parent_wrong.Statement.{statement}
 use Rattle.sheet.proofs.conditions.any_parent_wrong.Tie as tie
-use Rattle.sheet.proofs.conditions.any_parent_wrong.Reads as reads
-use Rattle.sheet.proofs.conditions.any_parent_wrong.Lts as lts
-use Rattle.sheet.proofs.conditions.is_wrong_parent.Reads as is-wrong-parent-reads
-use Rattle.sheet.proofs.records.read_cabinet.Reads as read-cabinet-reads
 
 abbrev Inv-loop : tie.InvT-loop
 Inv-loop block count c₀ c = (c ≤ count) × (any-below c (λ k. wrong-parent k (cabinet-in block k)) ≡ false)
@@ -21,35 +16,27 @@ Inv-loop block count c₀ c = (c ≤ count) × (any-below c (λ k. wrong-parent 
 abbrev μ-loop : tie.MeasureT-loop
 μ-loop block count c₀ c = count - c
 
--- src/conditions.rt:93:5
 loop-holds : tie.Need-loop-holds Inv-loop μ-loop
 loop-holds c = (omega arith, any-start _)
 
--- src/conditions.rt:94:31
 read-cabinet-requires : tie.Need-read-cabinet-requires Inv-loop μ-loop
 read-cabinet-requires c κs = omega arith
 
--- src/conditions.rt:94:12
 is-wrong-parent-requires : tie.Need-is-wrong-parent-requires Inv-loop μ-loop
 is-wrong-parent-requires c κs = omega arith
 
--- src/conditions.rt:95:13
 returns : tie.Need-returns Inv-loop μ-loop
 returns c = sym (any-in _ _ (c .before .before .before .before .loop .c) (omega arith) (sym (c .before .is-wrong-parent .ensures ∙ ap (wrong-parent (c .before .before .before .before .loop .c)) (c .before .before .read-cabinet .ensures)) ∙ c .if1 .taken))
 
--- src/conditions.rt:97:9
 add-c : tie.Need-add-c Inv-loop μ-loop
 add-c c = omega arith
 
--- src/conditions.rt:93:5
 loop-less : tie.Need-loop-less Inv-loop μ-loop
 loop-less c = omega arith
 
--- src/conditions.rt:93:5
 loop-again : tie.Need-loop-again Inv-loop μ-loop
 loop-again c = (omega arith, any-next _ _ (c .before .before .before .before .loop .inv .1) (sym (c .before .is-wrong-parent .ensures ∙ ap (wrong-parent (c .before .before .before .before .loop .c)) (c .before .before .read-cabinet .ensures)) ∙ c .if1 .left))
 
--- src/conditions.rt:88:1
 returns-2 : tie.Need-returns-2 Inv-loop μ-loop
 returns-2 c = any-end _ _ _ (omega arith) (omega arith) (c .before .loop .inv .1)
 

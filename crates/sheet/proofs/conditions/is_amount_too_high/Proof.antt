@@ -57,60 +57,46 @@ parts c =
     (λ (block : List ℕ). any-below (c .before .before .before .before .before .before .before .before .args .sheet .streams) (λ j. too-high (stream-in block j .demand)))
     (part-to-end _ (c .before .before .before .before .before .before .before .before .args .sheet .«streams_at»)))
 
--- src/conditions.rt:137:34
 sub-any-service-too-high : tie.Need-sub-any-service-too-high
 sub-any-service-too-high c = search needs
 
--- src/conditions.rt:137:34
 part-any-service-too-high-start : tie.Need-part-any-service-too-high-start
 part-any-service-too-high-start c = search needs
 
--- src/conditions.rt:137:34
 part-any-service-too-high-end : tie.Need-part-any-service-too-high-end
 part-any-service-too-high-end c = search needs
 
--- src/conditions.rt:137:9
 any-service-too-high-requires : tie.Need-any-service-too-high-requires
 any-service-too-high-requires c κs = search needs
 
--- src/conditions.rt:138:34
 sub-any-cabinet-too-high : tie.Need-sub-any-cabinet-too-high
 sub-any-cabinet-too-high c = search needs
 
--- src/conditions.rt:138:34
 part-any-cabinet-too-high-start : tie.Need-part-any-cabinet-too-high-start
 part-any-cabinet-too-high-start c = search needs
 
--- src/conditions.rt:138:34
 part-any-cabinet-too-high-end : tie.Need-part-any-cabinet-too-high-end
 part-any-cabinet-too-high-end c = search needs
 
--- src/conditions.rt:138:9
 any-cabinet-too-high-requires : tie.Need-any-cabinet-too-high-requires
 any-cabinet-too-high-requires c κs = search needs
 
--- src/conditions.rt:139:33
 sub-any-stream-too-high : tie.Need-sub-any-stream-too-high
 sub-any-stream-too-high c = search needs
 
--- src/conditions.rt:139:33
 part-any-stream-too-high-start : tie.Need-part-any-stream-too-high-start
 part-any-stream-too-high-start c = search needs
 
--- src/conditions.rt:139:33
 part-any-stream-too-high-end : tie.Need-part-any-stream-too-high-end
 part-any-stream-too-high-end c = search needs
 
--- src/conditions.rt:139:9
 any-stream-too-high-requires : tie.Need-any-stream-too-high-requires
 any-stream-too-high-requires c κs = search needs
 
--- src/conditions.rt:130:1
 returns : tie.Need-returns
 returns c =
     or-taken _ _ (c .before .before .any-stream-too-high .result) (first (c .before)) (c .if2 .taken) ∙ parts (c .before)
 
--- src/conditions.rt:130:1
 returns-2 : tie.Need-returns-2
 returns-2 c = or-left _ _ _ (first (c .before)) (c .if2 .left) ∙ parts (c .before)
 

@@ -1,9 +1,8 @@
 -- `is_beyond_limits` answers the condition of refusal 2: each test in a row adds to those before it.
 use mathlib.Core.Logic.{⊎-elim}
-use mathlib.Core.Path.{_≡_, ap, _∙_}
-use mathlib.Core.Bool.{Bool, _||_, not}
-use Prim.Native.Nat.{ℕ}
-use lib.Dec.{ltb, eqb}
+use mathlib.Core.Path.{_≡_, _∙_}
+use mathlib.Core.Bool.{_||_}
+use lib.Dec.{ltb}
 use borrow.Author.Needs.{needs}
 use borrow.Author.Tests.{lt-ltb, le-ltb}
 use Rattle.finite.proofs.Booleans.{or-taken, or-left}

@@ -1,7 +1,7 @@
 -- `is_cabinet_too_high` answers the condition of refusal 6 for one cabinet: each test in a row adds to those before it.
 use mathlib.Core.Logic.{⊎-elim}
 use mathlib.Core.Path.{_≡_, _∙_}
-use mathlib.Core.Bool.{Bool, _||_}
+use mathlib.Core.Bool.{_||_}
 use borrow.Author.Tests.{lt-ltb, le-ltb}
 use Rattle.sheet.specs.Conditions.{too-high}
 use Rattle.finite.proofs.Booleans.{or-taken, or-left}

@@ -1,3 +1,4 @@
+-- `is_end_wrong` meets its contract: the streams' block is lent as a part.
 use mathlib.Core.Path.{ap, _∙_}
 use mathlib.Core.List.{List}
 use Prim.Native.Nat.{ℕ}
@@ -10,27 +11,19 @@ use Rattle.sheet.specs.Conditions.{some-ends-wrong}
 use borrow.Author.Needs.{needs}
 use Rattle.sheet.proofs.conditions.is_end_wrong.Statement.{statement}
 use Rattle.sheet.proofs.conditions.is_end_wrong.Tie as tie
-use Rattle.sheet.proofs.conditions.is_end_wrong.Reads as reads
-use Rattle.sheet.proofs.conditions.is_end_wrong.Lts as lts
-use Rattle.sheet.proofs.conditions.any_ends_wrong.Reads as any-ends-wrong-reads
 
--- src/conditions.rt:158:20
 sub-any-ends-wrong : tie.Need-sub-any-ends-wrong
 sub-any-ends-wrong c = search needs
 
--- src/conditions.rt:158:20
 part-any-ends-wrong-start : tie.Need-part-any-ends-wrong-start
 part-any-ends-wrong-start c = search needs
 
--- src/conditions.rt:158:20
 part-any-ends-wrong-end : tie.Need-part-any-ends-wrong-end
 part-any-ends-wrong-end c = search needs
 
--- src/conditions.rt:158:5
 any-ends-wrong-requires : tie.Need-any-ends-wrong-requires
 any-ends-wrong-requires c κs = search needs
 
--- src/conditions.rt:153:1
 returns : tie.Need-returns
 unfolding some-ends-wrong stream
 returns c =

@@ -1,3 +1,4 @@
+-- `is_parent_wrong` meets its contract: the cabinets' block is lent as a part.
 use mathlib.Core.Path.{ap, _∙_}
 use mathlib.Core.List.{List}
 use Prim.Native.Nat.{ℕ}
@@ -10,27 +11,19 @@ use Rattle.sheet.specs.Conditions.{some-parent-wrong}
 use borrow.Author.Needs.{needs}
 use Rattle.sheet.proofs.conditions.is_parent_wrong.Statement.{statement}
 use Rattle.sheet.proofs.conditions.is_parent_wrong.Tie as tie
-use Rattle.sheet.proofs.conditions.is_parent_wrong.Reads as reads
-use Rattle.sheet.proofs.conditions.is_parent_wrong.Lts as lts
-use Rattle.sheet.proofs.conditions.any_parent_wrong.Reads as any-parent-wrong-reads
 
--- src/conditions.rt:149:22
 sub-any-parent-wrong : tie.Need-sub-any-parent-wrong
 sub-any-parent-wrong c = search needs
 
--- src/conditions.rt:149:22
 part-any-parent-wrong-start : tie.Need-part-any-parent-wrong-start
 part-any-parent-wrong-start c = search needs
 
--- src/conditions.rt:149:22
 part-any-parent-wrong-end : tie.Need-part-any-parent-wrong-end
 part-any-parent-wrong-end c = search needs
 
--- src/conditions.rt:149:5
 any-parent-wrong-requires : tie.Need-any-parent-wrong-requires
 any-parent-wrong-requires c κs = search needs
 
--- src/conditions.rt:144:1
 returns : tie.Need-returns
 unfolding some-parent-wrong cabinet
 returns c =

@@ -1,7 +1,7 @@
+-- `is_root_linked` meets its contract: the cabinets' block is lent as a part.
 use mathlib.Core.Path.{ap, _∙_}
 use mathlib.Core.List.{List}
 use Prim.Native.Nat.{ℕ}
-use Rattle.finite.specs.Below.{any-below}
 use borrow.Rule.Slice.PartAt.{part-to-end}
 use Rattle.sheet.specs.Layout.{cabinet-in}
 use Rattle.sheet.specs.Conditions.{linked}
@@ -10,32 +10,22 @@ use Rattle.sheet.specs.Conditions.{root-linked}
 use borrow.Author.Needs.{needs}
 use Rattle.sheet.proofs.conditions.is_root_linked.Statement.{statement}
 use Rattle.sheet.proofs.conditions.is_root_linked.Tie as tie
-use Rattle.sheet.proofs.conditions.is_root_linked.Reads as reads
-use Rattle.sheet.proofs.conditions.is_root_linked.Lts as lts
-use Rattle.sheet.proofs.conditions.is_linked.Reads as is-linked-reads
-use Rattle.sheet.proofs.records.read_cabinet.Reads as read-cabinet-reads
 
--- src/conditions.rt:167:28
 sub-read-cabinet : tie.Need-sub-read-cabinet
 sub-read-cabinet c = search needs
 
--- src/conditions.rt:167:28
 part-read-cabinet-start : tie.Need-part-read-cabinet-start
 part-read-cabinet-start c = search needs
 
--- src/conditions.rt:167:28
 part-read-cabinet-end : tie.Need-part-read-cabinet-end
 part-read-cabinet-end c = search needs
 
--- src/conditions.rt:167:15
 read-cabinet-requires : tie.Need-read-cabinet-requires
 read-cabinet-requires c κs = search needs
 
--- src/conditions.rt:167:5
 is-linked-requires : tie.Need-is-linked-requires
 is-linked-requires c κs = search needs
 
--- src/conditions.rt:162:1
 returns : tie.Need-returns
 unfolding root-linked cabinet
 returns c =

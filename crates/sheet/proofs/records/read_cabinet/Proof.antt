@@ -1,69 +1,51 @@
+-- `read_cabinet` meets its contract, field by field.
 use native.Mathlib.Omega.{arith}
 use Rattle.sheet.specs.Layout.{cabinet-in}
-use borrow.Author.Needs.{needs}
 use Rattle.sheet.proofs.records.read_cabinet.Statement.{statement}
 use Rattle.sheet.proofs.records.read_cabinet.Tie as tie
-use Rattle.sheet.proofs.records.read_cabinet.Reads as reads
-use Rattle.sheet.proofs.records.read_cabinet.Lts as lts
-use Rattle.sheet.proofs.records.word.Reads as word-reads
 
--- src/records.rt:51:14
 mul-at : tie.Need-mul-at
 mul-at c = omega arith
 
--- src/records.rt:53:17
 word-requires : tie.Need-word-requires
 word-requires c κs = omega arith
 
--- src/records.rt:54:31
 add-word : tie.Need-add-word
 add-word c = omega arith
 
--- src/records.rt:54:19
 word-requires-2 : tie.Need-word-requires-2
 word-requires-2 c κs = omega arith
 
--- src/records.rt:55:28
 add-word-2 : tie.Need-add-word-2
 add-word-2 c = omega arith
 
--- src/records.rt:55:16
 word-requires-3 : tie.Need-word-requires-3
 word-requires-3 c κs = omega arith
 
--- src/records.rt:56:34
 add-word-3 : tie.Need-add-word-3
 add-word-3 c = omega arith
 
--- src/records.rt:56:22
 word-requires-4 : tie.Need-word-requires-4
 word-requires-4 c κs = omega arith
 
--- src/records.rt:57:31
 add-word-4 : tie.Need-add-word-4
 add-word-4 c = omega arith
 
--- src/records.rt:57:19
 word-requires-5 : tie.Need-word-requires-5
 word-requires-5 c κs = omega arith
 
--- src/records.rt:58:36
 add-word-5 : tie.Need-add-word-5
 add-word-5 c = omega arith
 
--- src/records.rt:58:24
 word-requires-6 : tie.Need-word-requires-6
 word-requires-6 c κs = omega arith
 
--- src/records.rt:59:33
 add-word-6 : tie.Need-add-word-6
 add-word-6 c = omega arith
 
--- src/records.rt:59:21
 word-requires-7 : tie.Need-word-requires-7
 word-requires-7 c κs = omega arith
 
--- src/records.rt:47:1
 returns : tie.Need-returns
 unfolding cabinet-in
 returns c =

@@ -1,37 +1,27 @@
+-- `read_header` meets its contract, field by field.
 use native.Mathlib.Omega.{arith}
 use Rattle.sheet.specs.Layout.{header}
-use borrow.Author.Needs.{needs}
 use Rattle.sheet.proofs.records.read_header.Statement.{statement}
 use Rattle.sheet.proofs.records.read_header.Tie as tie
-use Rattle.sheet.proofs.records.read_header.Reads as reads
-use Rattle.sheet.proofs.records.read_header.Lts as lts
-use Rattle.sheet.proofs.records.word.Reads as word-reads
 
--- src/records.rt:31:19
 word-requires : tie.Need-word-requires
 word-requires c κs = omega arith
 
--- src/records.rt:32:19
 word-requires-2 : tie.Need-word-requires-2
 word-requires-2 c κs = omega arith
 
--- src/records.rt:33:18
 word-requires-3 : tie.Need-word-requires-3
 word-requires-3 c κs = omega arith
 
--- src/records.rt:34:22
 word-requires-4 : tie.Need-word-requires-4
 word-requires-4 c κs = omega arith
 
--- src/records.rt:35:22
 word-requires-5 : tie.Need-word-requires-5
 word-requires-5 c κs = omega arith
 
--- src/records.rt:36:21
 word-requires-6 : tie.Need-word-requires-6
 word-requires-6 c κs = omega arith
 
--- src/records.rt:26:1
 returns : tie.Need-returns
 unfolding header
 returns c = (

@@ -1,37 +1,27 @@
+-- `read_stream` meets its contract, field by field.
 use native.Mathlib.Omega.{arith}
 use Rattle.sheet.specs.Layout.{stream-in}
-use borrow.Author.Needs.{needs}
 use Rattle.sheet.proofs.records.read_stream.Statement.{statement}
 use Rattle.sheet.proofs.records.read_stream.Tie as tie
-use Rattle.sheet.proofs.records.read_stream.Reads as reads
-use Rattle.sheet.proofs.records.read_stream.Lts as lts
-use Rattle.sheet.proofs.records.word.Reads as word-reads
 
--- src/records.rt:67:14
 mul-at : tie.Need-mul-at
 mul-at c = omega arith
 
--- src/records.rt:69:15
 word-requires : tie.Need-word-requires
 word-requires c κs = omega arith
 
--- src/records.rt:70:25
 add-word : tie.Need-add-word
 add-word c = omega arith
 
--- src/records.rt:70:13
 word-requires-2 : tie.Need-word-requires-2
 word-requires-2 c κs = omega arith
 
--- src/records.rt:71:29
 add-word-2 : tie.Need-add-word-2
 add-word-2 c = omega arith
 
--- src/records.rt:71:17
 word-requires-3 : tie.Need-word-requires-3
 word-requires-3 c κs = omega arith
 
--- src/records.rt:63:1
 returns : tie.Need-returns
 unfolding stream-in
 returns c =
