@@ -1,24 +1,21 @@
 -- The lender's refusals, and what the whole of the memory lent holds once its first part was used.
-use Prim.Native.Nat.{ℕ, zero, suc, _≤_, _<_}
+use Prim.Native.Nat.{ℕ, _≤_, _<_}
 use native.Mathlib.Omega.{arith}
 use mathlib.Core.Path.{_≡_, refl, sym, ap, _∙_}
-use mathlib.Core.Bool.{Bool, true, false, _&&_, _||_, cond}
-use mathlib.Core.List.{List, [], _∷_, _++_}
-use lib.Dec.{ltb, leb}
+use mathlib.Core.Bool.{true, _||_}
+use mathlib.Core.List.{List, _++_}
+use lib.Dec.{ltb}
 use lib.ListN.{length, take, drop, replicate, take-append-drop, List·getD-append}
 use lib.Seq.{take-at}
-use borrow.Author.Tests.{lt-ltb, le-ltb, leb-true, ne-eqb}
-use Rattle.finite.proofs.Booleans.{both-l, both-r, either-r, neither}
+use borrow.Author.Tests.{lt-ltb, le-ltb, ne-eqb}
+use Rattle.finite.proofs.Booleans.{either-r, neither}
 use Rattle.subsets.specs.Costs.{Cost, none, some}
 use Rattle.sheet.specs.Instance.{Instance, WellFormed}
-use Rattle.sheet.specs.Layout.{header}
-use Rattle.sheet.specs.Refusals.{Rule, lowest, refusal, number-of}
-use Rattle.sheet.specs.Reading as readings
-use Rattle.sheet.specs.Reading.{answered, reading}
-use Rattle.sheet.specs.declared.Sheet.{Sheet}
+use Rattle.sheet.specs.Refusals.{lowest, refusal, number-of}
+use Rattle.sheet.specs.Reading.{reading}
 use Rattle.sheet.specs.declared.Refusal.{Refusal}
 use Rattle.sheet.specs.declared.Reading.the-variants as readers
-use Rattle.sheet.proofs.Groups.{number-refusal}
+use Rattle.sheet.proofs.Groups.{reading-number}
 use Rattle.sheet.specs.declared.Refusal.the-variants.{Lender}
 use Rattle.embedding.specs.Plan as plans
 use Rattle.embedding.specs.Plan.{valid, plan-cost, cheapest}
@@ -70,36 +67,6 @@ output-lifted I W (Plan k n) output part e (v, c, s) =
     (good .0, good .1, ap (λ (l : List ℕ). l ++ drop (I .r) output) (sym (take-at part (drop (I .r) output) (I .r) e)))
 output-lifted I W (Refused f n) output part e s = ap (λ (l : List ℕ). l ++ drop (I .r) output) s ∙ take-append-drop (I .r) output
 
--- ---- the reader's refusals
-
-cond-le : (b : Bool) (m n k : ℕ) → m ≤ k → n ≤ k → cond b m n ≤ k
-cond-le true m n k h l = h
-cond-le false m n k h l = l
-
--- of rules whose numbers are at most 9, the lowest is
-fits : List Rule → Bool
-fits [] = true
-fits (x ∷ xs) = leb (x .number) 9 && fits xs
-
-lowest-fits : (xs : List Rule) → fits xs ≡ true → lowest xs ≤ 9
-unfolding lowest fits
-lowest-fits [] e = omega arith
-lowest-fits (x ∷ xs) e =
-    cond-le (x .applies) (x .number) (lowest xs) 9 (leb-true (x .number) 9 (both-l (leb (x .number) 9) (fits xs) e)) (lowest-fits xs (both-r (leb (x .number) 9) (fits xs) e))
-
--- the reader's are
-lowest-le : (bytes : List ℕ) → lowest (readings.rules bytes) ≤ 9
-unfolding readings.rules fits
-lowest-le bytes = lowest-fits (readings.rules bytes) refl
-
-answered-number : (n : ℕ) (h : Sheet) (f : Refusal) → n ≤ 9 → answered n h ≡ readers.Refused f → number-of f ≤ 9
-unfolding answered
-answered-number zero h f l e = absurd (let z : _≡_ {A = ℕ} 0 1 = cc in omega arith)
-answered-number (suc n) h f l e = omega (arith, l, ap number-of (let z : refusal (suc n) ≡ f = cc in z), number-refusal (suc n))
-
--- so with a refusal handed on the tables are not used
+-- with a refusal that the reader gave the tables are not used
 pub handed-on : (I : Instance) (bytes : List ℕ) (f : Refusal) (table : List ℕ) → reading bytes ≡ readers.Refused f → table ≡ table-after I (Refused f 0) table
-unfolding reading
-handed-on I bytes f table e =
-    let l = answered-number (lowest (readings.rules bytes)) (header bytes) f (lowest-le bytes) e in
-    rw (ne-eqb (number-of f) 12 (λ q. omega arith))
+handed-on I bytes f table e = rw (ne-eqb (number-of f) 12 (λ q. omega (arith, reading-number bytes f e .1)))

@@ -3,8 +3,8 @@ use Prim.Native.Nat.{ℕ, zero, suc, _-_, _*_, _^_, _≤_}
 use native.Mathlib.Omega.{arith}
 use mathlib.Core.Logic.{_⊎_, inl, inr}
 use mathlib.Core.Path.{_≡_, refl, sym, ap, _∙_, subst}
-use mathlib.Core.Bool.{Bool, true, false}
-use mathlib.Core.List.{List, [], _∷_}
+use mathlib.Core.Bool.{true}
+use mathlib.Core.List.{List}
 use lib.ListN.{length, take}
 use lib.Seq.{length-take-le, getD-take}
 use borrow.Author.Tests.{ne-eqb}
@@ -12,15 +12,13 @@ use Rattle.subsets.specs.Costs.{Cost, none, some}
 use Rattle.subsets.specs.Count.{triples, pairs}
 use Rattle.subsets.proofs.Count.{triples-le}
 use Rattle.sheet.specs.Instance.{Instance, WellFormed, instance}
-use Rattle.sheet.specs.Refusals.{Rule, lowest, refusal, number-of}
-use Rattle.sheet.specs.Reading as readers
+use Rattle.sheet.specs.Refusals.{lowest, refusal, number-of}
 use Rattle.sheet.specs.Reading.{reading}
-use Rattle.sheet.specs.Layout.{header}
 use Rattle.sheet.specs.declared.Sheet.{Sheet}
 use Rattle.sheet.specs.declared.Refusal.{Refusal}
 use Rattle.sheet.specs.declared.Reading.{Reading}
 use Rattle.sheet.specs.declared.Reading.the-variants as readings
-use Rattle.sheet.proofs.Groups.{number-refusal, own-group}
+use Rattle.sheet.proofs.Groups.{number-refusal, own-group, reading-group, lowest-between, reading-number}
 use Rattle.embedding.specs.Plan.{valid, plan-cost, worth, cheapest}
 use Rattle.subsets.proofs.Provided.{provided-some}
 use Rattle.embedding.proofs.Services.{worth-ext}
@@ -41,21 +39,6 @@ use Rattle.theorems.specs.Given.{Given}
 
 -- ---- the number of a refusal
 
--- every rule of a list has a number from low to high
-abbrev Between : ℕ → ℕ → List Rule → Type 0
-Between low high [] = Unit {0}
-Between low high (x ∷ xs) = (low ≤ x .number) × (x .number ≤ high) × Between low high xs
-
--- the lowest of them has too, or is 0
-lowest-between : (low high : ℕ) (xs : List Rule) → Between low high xs → (n : ℕ) → lowest xs ≡ suc n → (low ≤ suc n) × (suc n ≤ high)
-unfolding lowest
-lowest-between low high [] b n e = absurd (omega arith)
-lowest-between low high (x ∷ xs) b n e = go (x .applies) refl (lowest-between low high xs (b .2) n)
-  where
-    go : (t : Bool) → x .applies ≡ t → (lowest xs ≡ suc n → (low ≤ suc n) × (suc n ≤ high)) → (low ≤ suc n) × (suc n ≤ high)
-    go true q ih = let k : x .number ≡ suc n = simp q at e in (omega (arith, b .0), omega (arith, b .1))
-    go false q ih = ih (simp q at e)
-
 given : (low high n : ℕ) → low ≤ n → n ≤ high → Given low high (refusal n)
 given low high n l h =
     record {
@@ -66,37 +49,9 @@ given low high n l h =
 
 -- the reader's refusals are 1 to 9
 pub reader-given : (bytes : List ℕ) (f : Refusal) → reading bytes ≡ readings.Refused f → Given 1 9 f
-unfolding readers.reading readers.rules readers.answered
-reader-given bytes f e = go (lowest (readers.rules bytes)) refl e
-  where
-    all : Between 1 9 (readers.rules bytes)
-    all = (
-      omega arith,
-      omega arith,
-      (
-        omega arith,
-        omega arith,
-        (
-          omega arith,
-          omega arith,
-          (
-            omega arith,
-            omega arith,
-            (
-              omega arith,
-              omega arith,
-              (omega arith, omega arith, (omega arith, omega arith, (omega arith, omega arith, (omega arith, omega arith, tt)))),
-            ),
-          ),
-        ),
-      ),
-    )
-
-    go : (m : ℕ) → lowest (readers.rules bytes) ≡ m → readers.answered m (header bytes) ≡ readings.Refused f → Given 1 9 f
-    go zero q e = absurd (let z : _≡_ {A = ℕ} 0 1 = cc in omega arith)
-    go (suc n) q e =
-        let b = lowest-between 1 9 (readers.rules bytes) all n q in
-        subst (Given 1 9) (let r : refusal (suc n) ≡ f = cc in r) (given 1 9 (suc n) (b .0) (b .1))
+reader-given bytes f e =
+    let n = reading-number bytes f e in
+    record { grouped = reading-group bytes f e; least = n .0; most = n .1 }
 
 -- ---- every answer of the planner
 
@@ -117,7 +72,7 @@ solved-answered (some k) n = inl (k, n, refl)
 lent-answered : (I : Instance) (output costs choices m : ℕ) → lowest (rules I output costs choices) ≡ m → Answered (lent m I)
 lent-answered I output costs choices zero e = solved-answered (cheapest I) (weighed I)
 lent-answered I output costs choices (suc n) e =
-    let b = lowest-between 10 11 (rules I output costs choices) (omega arith, omega arith, (omega arith, omega arith, tt)) n e in
+    let b = lowest-between 10 11 (rules I output costs choices) refl n e in
     inr (refusal (suc n), 0, refl, given 1 12 (suc n) (omega (arith, b .0)) (omega (arith, b .1)), λ h. refl)
 
 pub answered : (bytes : List ℕ) (output costs choices : ℕ) → Answered (planned bytes output costs choices)
