@@ -66,37 +66,39 @@ fn flow_of<'a>(
 }
 
 // The demand of every set below size.
-pub fn demand_sums(demand: &[u64; Sheet::MAX_SERVICES], r: usize, size: usize) -> [u64; SETS]
-    requires { ⌜ (size ≤ 1024) × (r ≤ 10) × ((i : ℕ) → getD (now demand) i 0 ≤ 10000) ⌝ }
-    ensures { λ sums. ⌜ ((x : ℕ) → x < size → getD sums x 0 ≡ demand-in (now (demand .entry)) r x) ⌝ }
+pub fn demand_sums(
+    sums: &mut [u64; SETS],
+    demand: &[u64; Sheet::MAX_SERVICES],
+    r: usize,
+    size: usize,
+)
+    requires { ⌜ (length (now sums) ≡ 1024) × (size ≤ 1024) × (r ≤ 10) × ((i : ℕ) → getD (now demand) i 0 ≤ 10000) ⌝ }
+    ensures { λ u. ⌜ ((x : ℕ) → x < size → getD (now (sums .exit)) x 0 ≡ demand-in (now (demand .entry)) r x) ⌝ }
 {
-    let mut sums = [0u64; SETS];
     let mut x = 0;
     while x < size {
         sums[x] = demand_of(demand, r, x);
         x += 1;
     }
-    sums
 }
 
 // The demand that runs out of every set below size.
 pub fn flow_sums<'a>(
+    sums: &mut [u64; SETS],
     from: &'a [usize; Sheet::MAX_STREAMS],
     to: &'a [usize; Sheet::MAX_STREAMS],
     load: &'a [u64; Sheet::MAX_STREAMS],
     q: usize,
     size: usize,
-) -> [u64; SETS]
-    requires { ⌜ (size ≤ 1024) × (q ≤ 100) × ((j : ℕ) → getD (now load) j 0 ≤ 10000) ⌝ }
-    ensures { λ sums. ⌜ ((x : ℕ) → x < size → getD sums x 0 ≡ flow-out (now (from .entry)) (now (to .entry)) (now (load .entry)) q x) ⌝ }
+)
+    requires { ⌜ (length (now sums) ≡ 1024) × (size ≤ 1024) × (q ≤ 100) × ((j : ℕ) → getD (now load) j 0 ≤ 10000) ⌝ }
+    ensures { λ u. ⌜ ((x : ℕ) → x < size → getD (now (sums .exit)) x 0 ≡ flow-out (now (from .entry)) (now (to .entry)) (now (load .entry)) q x) ⌝ }
 {
-    let mut sums = [0u64; SETS];
     let mut x = 0;
     while x < size {
         sums[x] = flow_of(from, to, load, q, x);
         x += 1;
     }
-    sums
 }
 
 // What a cabinet charges for services of so much demand.
@@ -138,20 +140,19 @@ pub fn fill_own(row: &mut [u64], demands: &[u64; SETS], k: Cabinet)
 
 // What the link above a cabinet charges for every set below size.
 pub fn link_row(
+    link: &mut [u64; SETS],
     leaving: &[u64; SETS],
     entering: &[u64; SETS],
     k: Cabinet,
     size: usize,
-) -> [u64; SETS]
-    requires { ⌜ (size ≤ 1024) × (k .«up_price» ≤ 10000) × (k .«down_price» ≤ 10000)
+)
+    requires { ⌜ (length (now link) ≡ 1024) × (size ≤ 1024) × (k .«up_price» ≤ 10000) × (k .«down_price» ≤ 10000)
         × ((x : ℕ) → x < size → (getD (now leaving) x 0 ≤ 1000000) × (getD (now entering) x 0 ≤ 1000000)) ⌝ }
-    ensures { λ link. ⌜ ((x : ℕ) → x < size → getD link x 0 ≡ link-figure k (getD (now (leaving .entry)) x 0) (getD (now (entering .entry)) x 0)) ⌝ }
+    ensures { λ u. ⌜ ((x : ℕ) → x < size → getD (now (link .exit)) x 0 ≡ link-figure k (getD (now (leaving .entry)) x 0) (getD (now (entering .entry)) x 0)) ⌝ }
 {
-    let mut link = [0u64; SETS];
     let mut x = 0;
     while x < size {
         link[x] = link_charge(leaving[x], entering[x], k);
         x += 1;
     }
-    link
 }

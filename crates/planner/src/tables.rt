@@ -17,18 +17,16 @@ use crate::charges::flow_sums;
 use crate::charges::link_row;
 use crate::joins::join;
 
-// A copy of a row.
-fn copy_row(row: &[u64]) -> [u64; SETS]
-    requires { ⌜ length (now row) ≤ 1024 ⌝ }
-    ensures { λ copy. ⌜ ((x : ℕ) → x < length (now (row .entry)) → getD copy x 0 ≡ getD (now (row .entry)) x 0) ⌝ }
+// Copies a row.
+fn copy_row(copy: &mut [u64; SETS], row: &[u64])
+    requires { ⌜ (length (now copy) ≡ 1024) × (length (now row) ≤ 1024) ⌝ }
+    ensures { λ u. ⌜ ((x : ℕ) → x < length (now (row .entry)) → getD (now (copy .exit)) x 0 ≡ getD (now (row .entry)) x 0) ⌝ }
 {
-    let mut copy = [0u64; SETS];
     let mut x = 0;
     while x < row.len() {
         copy[x] = row[x];
         x += 1;
     }
-    copy
 }
 
 // The first child of p from c on, or the number of cabinets where there is none.
@@ -73,9 +71,11 @@ fn join_child(
     let end = at + size;
     let below = c * size;
     let below_end = below + size;
-    let child = copy_row(&costs[below..below_end]);
+    let mut child = [0u64; SETS];
+    copy_row(&mut child, &costs[below..below_end]);
     let k = records.cabinet[c];
-    let link = link_row(leaving, entering, k, size);
+    let mut link = [0u64; SETS];
+    link_row(&mut link, leaving, entering, k, size);
     join(
         &mut costs[at..end],
         &mut choices[below..below_end],
@@ -162,15 +162,20 @@ pub fn fill(costs: &mut [u64], choices: &mut [u16], records: Records, size: usiz
     requires { ⌜ Ready (held records) size (now costs) (now choices) ⌝ }
     ensures { λ n. ⌜ Filled (held records) (now (costs .exit)) (now (choices .exit)) n ⌝ }
 {
-    let demands = demand_sums(&records.demand, records.services, size);
-    let leaving = flow_sums(
+    let mut demands = [0u64; SETS];
+    demand_sums(&mut demands, &records.demand, records.services, size);
+    let mut leaving = [0u64; SETS];
+    flow_sums(
+        &mut leaving,
         &records.from,
         &records.to,
         &records.load,
         records.streams,
         size,
     );
-    let entering = flow_sums(
+    let mut entering = [0u64; SETS];
+    flow_sums(
+        &mut entering,
         &records.to,
         &records.from,
         &records.load,

@@ -1,7 +1,7 @@
 -- `flow_sums` meets its contract, place by place.
 use Prim.Native.Nat.{ℕ, _-_, _≤_, _<_}
 use native.Mathlib.Omega.{arith}
-use mathlib.Core.Path.{_≡_, refl}
+use mathlib.Core.Path.{_≡_}
 use borrow.Author.Needs.{needs}
 use lib.ListN.{length, getD, length-set}
 use Rattle.planner.specs.Sums.{flow-out}
@@ -10,22 +10,22 @@ use Rattle.planner.proofs.charges.flow_sums.Statement.{statement}
 use Rattle.planner.proofs.charges.flow_sums.Tie as tie
 
 abbrev Inv-loop : tie.InvT-loop
-Inv-loop from to load q size sums₀ x₀ sums x = (x ≤ size) × (length sums ≡ 1024) × ((d : ℕ) → d < x → getD sums d 0 ≡ flow-out from to load q d)
+Inv-loop sums₀ from to load q size x₀ sums x = (x ≤ size) × (length sums ≡ 1024) × ((d : ℕ) → d < x → getD sums d 0 ≡ flow-out from to load q d)
 
 abbrev μ-loop : tie.MeasureT-loop
-μ-loop from to load q size sums₀ x₀ sums x = size - x
+μ-loop sums₀ from to load q size x₀ sums x = size - x
 
 loop-holds : tie.Need-loop-holds Inv-loop μ-loop
-loop-holds c = (search needs, refl, λ d l. absurd (omega arith))
+loop-holds c = (search needs, c .pre .0, λ d l. absurd (omega arith))
 
 flow-of-requires : tie.Need-flow-of-requires Inv-loop μ-loop
-flow-of-requires c κs = (c .before .before .pre .1, c .before .before .pre .2)
+flow-of-requires c κs = (c .before .before .pre .2, c .before .before .pre .3)
 
 mul-sums : tie.Need-mul-sums Inv-loop μ-loop
 mul-sums c = search needs
 
-array-write-sums : tie.Need-array-write-sums Inv-loop μ-loop
-array-write-sums c = search needs
+element-write-sums : tie.Need-element-write-sums Inv-loop μ-loop
+element-write-sums c = search needs
 
 add-x : tie.Need-add-x Inv-loop μ-loop
 add-x c = search needs
@@ -51,7 +51,7 @@ flow-sums-spec =
     loop-holds
     flow-of-requires
     mul-sums
-    array-write-sums
+    element-write-sums
     add-x
     loop-less
     loop-again

@@ -1,7 +1,7 @@
 -- `link_row` meets its contract, place by place.
 use Prim.Native.Nat.{ℕ, _-_, _≤_, _<_}
 use native.Mathlib.Omega.{arith}
-use mathlib.Core.Path.{_≡_, refl}
+use mathlib.Core.Path.{_≡_}
 use borrow.Author.Needs.{needs}
 use lib.ListN.{length, getD, length-set}
 use Rattle.planner.specs.Sums.{link-figure}
@@ -10,13 +10,13 @@ use Rattle.planner.proofs.charges.link_row.Statement.{statement}
 use Rattle.planner.proofs.charges.link_row.Tie as tie
 
 abbrev Inv-loop : tie.InvT-loop
-Inv-loop leaving entering k size link₀ x₀ link x = (x ≤ size) × (length link ≡ 1024) × ((d : ℕ) → d < x → getD link d 0 ≡ link-figure k (getD leaving d 0) (getD entering d 0))
+Inv-loop link₀ leaving entering k size x₀ link x = (x ≤ size) × (length link ≡ 1024) × ((d : ℕ) → d < x → getD link d 0 ≡ link-figure k (getD leaving d 0) (getD entering d 0))
 
 abbrev μ-loop : tie.MeasureT-loop
-μ-loop leaving entering k size link₀ x₀ link x = size - x
+μ-loop link₀ leaving entering k size x₀ link x = size - x
 
 loop-holds : tie.Need-loop-holds Inv-loop μ-loop
-loop-holds c = (search needs, refl, λ d l. absurd (omega arith))
+loop-holds c = (search needs, c .pre .0, λ d l. absurd (omega arith))
 
 mul-link-charge : tie.Need-mul-link-charge Inv-loop μ-loop
 mul-link-charge c = search needs
@@ -32,14 +32,14 @@ element-copy-out-link-charge-2 c = search needs
 
 link-charge-requires : tie.Need-link-charge-requires Inv-loop μ-loop
 link-charge-requires c κs =
-    let low = c .before .before .before .before .pre .3 (c .before .before .before .loop .x) (omega arith) in
-    (low .0, low .1, c .before .before .before .before .pre .1, c .before .before .before .before .pre .2)
+    let low = c .before .before .before .before .pre .4 (c .before .before .before .loop .x) (omega arith) in
+    (low .0, low .1, c .before .before .before .before .pre .2, c .before .before .before .before .pre .3)
 
 mul-link : tie.Need-mul-link Inv-loop μ-loop
 mul-link c = search needs
 
-array-write-link : tie.Need-array-write-link Inv-loop μ-loop
-array-write-link c = search needs
+element-write-link : tie.Need-element-write-link Inv-loop μ-loop
+element-write-link c = search needs
 
 add-x : tie.Need-add-x Inv-loop μ-loop
 add-x c = search needs
@@ -69,7 +69,7 @@ link-row-spec =
     element-copy-out-link-charge-2
     link-charge-requires
     mul-link
-    array-write-link
+    element-write-link
     add-x
     loop-less
     loop-again

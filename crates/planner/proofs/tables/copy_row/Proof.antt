@@ -9,13 +9,13 @@ use Rattle.planner.proofs.tables.copy_row.Statement.{statement}
 use Rattle.planner.proofs.tables.copy_row.Tie as tie
 
 abbrev Inv-loop : tie.InvT-loop
-Inv-loop row copy₀ x₀ copy x = (x ≤ length row) × (length copy ≡ 1024) × ((d : ℕ) → d < x → getD copy d 0 ≡ getD row d 0)
+Inv-loop copy₀ row x₀ copy x = (x ≤ length row) × (length copy ≡ 1024) × ((d : ℕ) → d < x → getD copy d 0 ≡ getD row d 0)
 
 abbrev μ-loop : tie.MeasureT-loop
-μ-loop row copy₀ x₀ copy x = length row - x
+μ-loop copy₀ row x₀ copy x = length row - x
 
 loop-holds : tie.Need-loop-holds Inv-loop μ-loop
-loop-holds c = (search needs, refl, λ d l. absurd (omega arith))
+loop-holds c = (search needs, c .pre .0, λ d l. absurd (omega arith))
 
 mul-copy : tie.Need-mul-copy Inv-loop μ-loop
 mul-copy c = search needs
@@ -26,8 +26,8 @@ shared-slice-read-copy c = search needs
 mul-copy-2 : tie.Need-mul-copy-2 Inv-loop μ-loop
 mul-copy-2 c = search needs
 
-array-write-copy : tie.Need-array-write-copy Inv-loop μ-loop
-array-write-copy c = search needs
+element-write-copy : tie.Need-element-write-copy Inv-loop μ-loop
+element-write-copy c = search needs
 
 add-x : tie.Need-add-x Inv-loop μ-loop
 add-x c = search needs
@@ -54,7 +54,7 @@ copy-row-spec =
     mul-copy
     shared-slice-read-copy
     mul-copy-2
-    array-write-copy
+    element-write-copy
     add-x
     loop-less
     loop-again

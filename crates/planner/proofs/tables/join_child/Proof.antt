@@ -39,7 +39,7 @@ add-below-end : tie.Need-add-below-end
 add-below-end c = omega (arith, rooms (c .before .before) .0, rooms (c .before .before) .1)
 
 mul-copy-row : tie.Need-mul-copy-row
-mul-copy-row c = omega (arith, rooms (c .before .before) .0, rooms (c .before .before) .1)
+mul-copy-row c = omega (arith, rooms (c .before .before .before) .0, rooms (c .before .before .before) .1)
 
 sub-copy-row : tie.Need-sub-copy-row
 sub-copy-row c = search needs
@@ -48,12 +48,12 @@ part-copy-row-start : tie.Need-part-copy-row-start
 part-copy-row-start c = search needs
 
 part-copy-row-end : tie.Need-part-copy-row-end
-part-copy-row-end c = omega (arith, rooms (c .before .before .before) .0, rooms (c .before .before .before) .1)
+part-copy-row-end c = omega (arith, rooms (c .before .before .before .before) .0, rooms (c .before .before .before .before) .1)
 
 copy-row-requires : tie.Need-copy-row-requires
 copy-row-requires c κs =
-    let a = c .before .before .before .before .args in
-    omega (arith, row-length (a .size) (a .c) (a .costs .now) (rooms (c .before .before .before .before) .1 .row-costs), rooms (c .before .before .before .before) .1 .row)
+    let a = c .before .before .before .before .before .args in
+    (refl, omega (arith, row-length (a .size) (a .c) (a .costs .now) (rooms (c .before .before .before .before .before) .1 .row-costs), rooms (c .before .before .before .before .before) .1 .row))
 
 mul-k : tie.Need-mul-k
 mul-k c = search needs
@@ -64,13 +64,13 @@ element-copy-out-k c = search needs
 link-row-requires : tie.Need-link-row-requires
 unfolding held
 link-row-requires c κs =
-    let a = c .before .before .before .before .before .before .args in
-    let W = c .before .before .before .before .before .before .pre .0 .well-formed in
-    let S = c .before .before .before .before .before .before .pre .1 .0 in
-    (rooms (c .before .before .before .before .before .before) .1 .row, W .up-prices (a .c), W .down-prices (a .c), λ x l. flows-small (held (a .t3)) W (S .0) (a .leaving .now) (a .entering .now) (S .1) x (omega (arith, c .before .before .before .before .before .before .pre .0 .row-size)))
+    let a = c .before .before .before .before .before .before .before .before .args in
+    let W = c .before .before .before .before .before .before .before .before .pre .0 .well-formed in
+    let S = c .before .before .before .before .before .before .before .before .pre .1 .0 in
+    (refl, rooms (c .before .before .before .before .before .before .before .before) .1 .row, W .up-prices (a .c), W .down-prices (a .c), λ x l. flows-small (held (a .t3)) W (S .0) (a .leaving .now) (a .entering .now) (S .1) x (omega (arith, c .before .before .before .before .before .before .before .before .pre .0 .row-size)))
 
 mul-join : tie.Need-mul-join
-mul-join c = omega (arith, rooms (c .before .before .before .before .before .before .before) .0, rooms (c .before .before .before .before .before .before .before) .1)
+mul-join c = omega (arith, rooms (c .before .before .before .before .before .before .before .before .before) .0, rooms (c .before .before .before .before .before .before .before .before .before) .1)
 
 sub-join : tie.Need-sub-join
 sub-join c = search needs
@@ -79,10 +79,10 @@ part-join-start : tie.Need-part-join-start
 part-join-start c = search needs
 
 part-join-end : tie.Need-part-join-end
-part-join-end c = omega (arith, rooms (c .before .before .before .before .before .before .before) .0, rooms (c .before .before .before .before .before .before .before) .1)
+part-join-end c = omega (arith, rooms (c .before .before .before .before .before .before .before .before .before) .0, rooms (c .before .before .before .before .before .before .before .before .before) .1)
 
 mul-join-2 : tie.Need-mul-join-2
-mul-join-2 c = omega (arith, rooms (c .before .before .before .before .before .before .before .before) .0, rooms (c .before .before .before .before .before .before .before .before) .1)
+mul-join-2 c = omega (arith, rooms (c .before .before .before .before .before .before .before .before .before .before) .0, rooms (c .before .before .before .before .before .before .before .before .before .before) .1)
 
 sub-join-2 : tie.Need-sub-join-2
 sub-join-2 c = search needs
@@ -91,12 +91,12 @@ part-join-start-2 : tie.Need-part-join-start-2
 part-join-start-2 c = search needs
 
 part-join-end-2 : tie.Need-part-join-end-2
-part-join-end-2 c = omega (arith, rooms (c .before .before .before .before .before .before .before .before) .0, rooms (c .before .before .before .before .before .before .before .before) .1)
+part-join-end-2 c = omega (arith, rooms (c .before .before .before .before .before .before .before .before .before .before) .0, rooms (c .before .before .before .before .before .before .before .before .before .before) .1)
 
 join-requires : tie.Need-join-requires
 join-requires c κs =
-    let a = c .before .before .before .before .before .before .before .before .before .before .before .args in
-    let M = rooms (c .before .before .before .before .before .before .before .before .before .before .before) in
+    let a = c .before .before .before .before .before .before .before .before .before .before .before .before .before .args in
+    let M = rooms (c .before .before .before .before .before .before .before .before .before .before .before .before .before) in
     let e = row-length (a .size) (a .p) (a .costs .now) (M .0 .row-costs) in
     (omega (arith, e, M .0 .row), row-length (a .size) (a .c) (a .choices .now) (M .1 .row-choices) ∙ sym e)
 
@@ -108,21 +108,21 @@ same-length-2 c = search needs
 
 returns : tie.Need-returns
 returns c =
-    let a = c .before .before .before .before .before .before .before .before .before .before .before .before .before .before .before .before .args in
+    let a = c .before .before .before .before .before .before .before .before .before .before .before .before .before .before .before .before .before .before .args in
     let I = held (a .t3) in
-    let P = c .before .before .before .before .before .before .before .before .before .before .before .before .before .before .before .before .pre in
-    let M = rooms (c .before .before .before .before .before .before .before .before .before .before .before .before .before .before .before .before) in
+    let P = c .before .before .before .before .before .before .before .before .before .before .before .before .before .before .before .before .before .before .pre in
+    let M = rooms (c .before .before .before .before .before .before .before .before .before .before .before .before .before .before .before .before .before .before) in
     let e : a .size ≡ 2 ^ I .r = P .0 .row-size in
     let at = row-length (a .size) (a .p) (a .costs .now) (M .0 .row-costs) in
     let below = row-length (a .size) (a .c) (a .costs .now) (M .1 .row-costs) in
     subst (λ (z : ℕ). JoinedChild I (a .p) (a .c) (a .costs .now) (putMid (a .p * z) (a .p * z + z - a .p * z) (a .costs .now) (c .before .before .before .before .join .last .0))
     (a .choices .now) (putMid (a .c * z) (a .c * z + z - a .c * z) (a .choices .now) (c .before .before .before .before .join .last .1 .0)) (c .before .before .before .before .join .result)) (sym e)
     (joined-child (a .t3) (P .0 .well-formed) (a .p) (a .c) (P .1 .1 .0 .0) (P .1 .1 .0 .1)
-    (take (a .p * a .size + a .size - a .p * a .size) (drop (a .p * a .size) (a .costs .now))) (c .before .before .before .before .before .before .before .before .before .before .before .copy-row .result) (c .before .before .before .before .before .before .before .before .before .link-row .result) (at ∙ e)
+    (take (a .p * a .size + a .size - a .p * a .size) (drop (a .p * a .size) (a .costs .now))) (c .before .before .before .before .before .before .before .before .before .before .before .before .copy-row .last .0) (c .before .before .before .before .before .before .before .before .before .link-row .last .0) (at ∙ e)
     (λ x l. row-entry (a .size) (a .p) (a .costs .now) (M .0 .row-costs) x (omega arith) ∙ ap (λ (z : ℕ). entry z (a .costs .now) (a .p) x) e ∙ P .1 .1 .1 x l .0)
-    (λ x l. c .before .before .before .before .before .before .before .before .before .before .before .copy-row .ensures x (omega arith) ∙ row-entry (a .size) (a .c) (a .costs .now) (M .1 .row-costs) x (omega arith)
+    (λ x l. c .before .before .before .before .before .before .before .before .before .before .before .before .copy-row .ensures x (omega arith) ∙ row-entry (a .size) (a .c) (a .costs .now) (M .1 .row-costs) x (omega arith)
     ∙ ap (λ (z : ℕ). entry z (a .costs .now) (a .c) x) e ∙ P .1 .1 .1 x l .1 ∙ unfold cost-entry in refl)
-    (link-holds (a .t3) (P .0 .well-formed) (a .p) (a .c) (P .1 .1 .0 .0) (P .1 .1 .0 .1) (P .1 .0 .0) (a .leaving .now) (a .entering .now) (c .before .before .before .before .before .before .before .before .before .link-row .result) (P .1 .0 .1)
+    (link-holds (a .t3) (P .0 .well-formed) (a .p) (a .c) (P .1 .1 .0 .0) (P .1 .1 .0 .1) (P .1 .0 .0) (a .leaving .now) (a .entering .now) (c .before .before .before .before .before .before .before .before .before .link-row .last .0) (P .1 .0 .1)
     (λ x l. c .before .before .before .before .before .before .before .before .before .link-row .ensures x (omega arith)))
     (a .costs .now) (a .choices .now) (subst (λ (z : ℕ). a .p * z + z ≤ length (a .costs .now)) e (M .0 .row-costs)) (subst (λ (z : ℕ). a .c * z + z ≤ length (a .choices .now)) e (M .1 .row-choices))
     (c .before .before .before .before .join .last .0) (c .before .before .before .before .join .last .1 .0) (c .before .before .before .before .join .result) (c .before .before .before .before .join .kept .0 ∙ at ∙ e) (c .before .before .before .before .join .kept .1 .0 ∙ row-length (a .size) (a .c) (a .choices .now) (M .1 .row-choices) ∙ e) (c .before .before .before .before .join .ensures))
