@@ -1,7 +1,6 @@
--- Children of a node, and rows over nodes that are no children.
-use Prim.Native.Nat.{ℕ, suc, _≤_, _<_}
+-- Children of a node, and its row before the first of them.
+use Prim.Native.Nat.{ℕ, zero, suc, _≤_, _<_}
 use native.Mathlib.Omega.{arith}
-use native.Mathlib.Decide.{le-ind}
 use mathlib.Core.Path.{_≡_, refl, _∙_, subst}
 use mathlib.Core.Bool.{Bool, true, false, _&&_}
 use lib.Dec.{ltb}
@@ -30,19 +29,6 @@ module _ (N : Net) (falls : Falls (N .parent)) where
   pub child-above : (p c : ℕ) → child N p c ≡ true → p < c
   child-above p c e = let w = child-parent N p c e in omega (arith, falls c (w .0), w .1)
 
-  module _ (p c : ℕ) where
-    -- over nodes that are no children a row stays
-    pub row-skip : (k : ℕ) → c ≤ k → ((b : ℕ) → c ≤ b → b < k → child N p b ≡ false) → (x : ℕ) → row-at N p k x ≡ row-at N p c x
-    row-skip k h n x =
-        le-ind (λ (k : ℕ). ((b : ℕ) → c ≤ b → b < k → child N p b ≡ false) → row-at N p k x ≡ row-at N p c x) (λ n. refl)
-        (λ m l ih n. row-pass N falls p m x (n m l (omega arith)) ∙ ih (λ b i j. n b i (omega arith))) k h n
-
-    -- and so does the count
-    pub joins-skip : (k : ℕ) → c ≤ k → ((b : ℕ) → c ≤ b → b < k → child N p b ≡ false) → joins N p k ≡ joins N p c
-    joins-skip k h n =
-        le-ind (λ (k : ℕ). ((b : ℕ) → c ≤ b → b < k → child N p b ≡ false) → joins N p k ≡ joins N p c) (λ n. refl)
-        (λ m l ih n. joins-pass N p m (n m l (omega arith)) ∙ ih (λ b i j. n b i (omega arith))) k h n
-
   -- no node up to p is a child of p
   pub none-up-to : (p b : ℕ) → b < suc p → child N p b ≡ false
   none-up-to p b h = go (child N p b) refl
@@ -52,8 +38,17 @@ module _ (N : Net) (falls : Falls (N .parent)) where
       go false e = e
 
   -- so a row starts as what its node charges
+  row-first : (k p x : ℕ) → k ≤ suc p → row-at N p k x ≡ N .node p x
+  row-first zero p x h = row-alone N falls p x
+  row-first (suc k) p x h = row-pass N falls p k x (none-up-to p k (omega arith)) ∙ row-first k p x (omega arith)
+
   pub row-start : (p x : ℕ) → row-at N p (suc p) x ≡ N .node p x
-  row-start p x = row-skip p 0 (suc p) (omega arith) (λ b i j. none-up-to p b j) x ∙ row-alone N falls p x
+  row-start p x = row-first (suc p) p x (omega arith)
+
+  -- and the count as 0
+  joins-first : (k p : ℕ) → k ≤ suc p → joins N p k ≡ 0
+  joins-first zero p h = joins-none N p
+  joins-first (suc k) p h = joins-pass N p k (none-up-to p k (omega arith)) ∙ joins-first k p (omega arith)
 
   pub joins-start : (p : ℕ) → joins N p (suc p) ≡ 0
-  joins-start p = joins-skip p 0 (suc p) (omega arith) (λ b i j. none-up-to p b j) ∙ joins-none N p
+  joins-start p = joins-first (suc p) p (omega arith)

@@ -1,45 +1,77 @@
 -- One child joined: the lists that the code joins hold the figures of the rows, so that the row and the choices after it are the next.
-use Prim.Native.Nat.{ℕ, _+_, _-_, _*_, _^_, _≤_, _<_}
+use Prim.Native.Nat.{ℕ, suc, _+_, _*_, _^_, _≤_, _<_}
 use native.Mathlib.Omega.{arith}
-use mathlib.Core.Path.{_≡_, ap, ap₂, _∙_}
-use mathlib.Core.Bool.{true}
+use mathlib.Core.Path.{_≡_, ap, ap₂, _∙_, subst}
 use mathlib.Core.List.{List}
 use lib.ListN.{length, getD}
-use borrow.Rule.Slice.PartMut.{putMid}
-use Rattle.subsets.specs.Rows.{child, row-at}
+use Rattle.subsets.specs.Figures.{figure}
+use Rattle.subsets.specs.Rows.{row-at, choice-at}
 use Rattle.subsets.specs.Folds.{Holds, counted-below}
 use Rattle.subsets.proofs.Tables.{next-figure, next-choice, next-count}
-use Rattle.sheet.specs.Instance.{WellFormed}
+use Rattle.sheet.specs.Instance.{Instance}
+use Rattle.sheet.specs.declared.Cabinet.{Cabinet}
 use Rattle.embedding.specs.Charge.{link-charge, net}
-use Rattle.planner.specs.declared.Records.{Records}
-use Rattle.planner.specs.Loaded.{held}
+use Rattle.planner.specs.Loaded.{cabinet-of}
 use Rattle.planner.specs.Sums.{link-figure}
 use Rattle.planner.specs.Joins.{Joined}
-use Rattle.planner.specs.Tables.{Summed, JoinedChild}
-use Rattle.planner.proofs.Charging.{cabinet-of, link-is, falls, nodes, links, small}
-use Rattle.planner.proofs.Parted.{row-put}
+use Rattle.planner.specs.Tables.{entry, cost-entry, Joinable, JoinedChild, RowSet}
+use Rattle.planner.proofs.Children.{child-above}
+use Rattle.planner.proofs.Charging.{link-is, flows-small, falls, nodes, links, small}
+use Rattle.planner.proofs.Parted.{Room, room, row-of, put-row, row-length, row-entry, row-put}
 
-module _ (k : Records) (W : WellFormed (held k)) (p c : ℕ) (hc : c < held k .s) (e : child (net (held k)) p c ≡ true) where
-  -- the list of the link's figures
-  pub link-holds : (demands outs ins link : List ℕ) → Summed (held k) demands outs ins
-      → ((x : ℕ) → x < 2 ^ held k .r → getD link x 0 ≡ link-figure (cabinet-of k c) (getD outs x 0) (getD ins x 0))
-      → Holds (2 ^ held k .r) (link-charge (held k) c) link
-  link-holds demands outs ins link S h x l =
-      h x l ∙ ap₂ (λ (m n : ℕ). link-figure (cabinet-of k c) m n) (S .leaves x l) (S .enters x l) ∙ link-is k c x
+module _ {I : Instance} {k : Cabinet} {p c size : ℕ} {outs ins t u : List ℕ} (J : Joinable I k p c size outs ins t u) where
+  -- the rows of p and of c lie within both tables
+  pub rooms : Room I size t u p × Room I size t u c
+  rooms =
+      let above : p < c = child-above (net I) (falls I (J .ready .well-formed)) p c (J .is-child) in
+      (room I size t u (J .ready) p (omega (arith, J .within)), room I size t u (J .ready) c (J .within))
 
-  module _ (row kid link : List ℕ) (n : length row ≡ 2 ^ held k .r)
-      (hr : Holds (2 ^ held k .r) (row-at (net (held k)) p c) row) (hk : Holds (2 ^ held k .r) (row-at (net (held k)) c (held k .s)) kid)
-      (hl : Holds (2 ^ held k .r) (link-charge (held k) c) link)
-      (t u : List ℕ) (ft : p * 2 ^ held k .r + 2 ^ held k .r ≤ length t) (fu : c * 2 ^ held k .r + 2 ^ held k .r ≤ length u) where
+  -- what the row of the link asks for
+  pub link-asks : (size ≤ 1024) × (k .«up_price» ≤ 10000) × (k .«down_price» ≤ 10000)
+      × ((x : ℕ) → x < size → (getD outs x 0 ≤ 1000000) × (getD ins x 0 ≤ 1000000))
+  link-asks =
+      let W = J .ready .well-formed in (
+        rooms .1 .row,
+        rw (J .cabinet) (W .up-prices c),
+        rw (J .cabinet) (W .down-prices c),
+        λ x l. flows-small I W outs ins (J .flows) x (omega (arith, J .ready .row-size)),
+      )
+
+  -- a row lent holds the figures that the table has there
+  row-holds : (d : ℕ) → d * size + size ≤ length t → (f : ℕ → ℕ) → ((x : ℕ) → x < 2 ^ I .r → entry (2 ^ I .r) t d x ≡ f x)
+      → (x : ℕ) → x < 2 ^ I .r → getD (row-of size d t) x 0 ≡ f x
+  row-holds d fits f h x l =
+      row-entry size d t fits x (omega (arith, J .ready .row-size)) ∙ ap (λ (z : ℕ). entry z t d x) (J .ready .row-size) ∙ h x l
+
+  module _ (kid link : List ℕ) (copied : (x : ℕ) → x < length (row-of size c t) → getD kid x 0 ≡ getD (row-of size c t) x 0)
+      (linked : (x : ℕ) → x < size → getD link x 0 ≡ link-figure k (getD outs x 0) (getD ins x 0)) where
+    kid-holds : Holds (2 ^ I .r) (row-at (net I) c (I .s)) kid
+    unfolding cost-entry
+    kid-holds x l =
+        copied x (omega (arith, row-length size c t (rooms .1 .row-costs), J .ready .row-size))
+        ∙ row-holds c (rooms .1 .row-costs) _ (J .child-row) x l
+
+    link-holds : Holds (2 ^ I .r) (link-charge I c) link
+    link-holds x l =
+        linked x (omega (arith, J .ready .row-size))
+        ∙ ap (λ (k : Cabinet). link-figure k (getD outs x 0) (getD ins x 0)) (J .cabinet)
+        ∙ ap₂ (λ (m n : ℕ). link-figure (cabinet-of I c) m n) (J .flows .leaves x l) (J .flows .enters x l) ∙ link-is I c x
+
     -- both tables after the join
-    pub joined-child : (row' choice' : List ℕ) (count : ℕ) → length row' ≡ 2 ^ held k .r → length choice' ≡ 2 ^ held k .r → Joined row kid link row' choice' count
-        → JoinedChild (held k) p c t (putMid (p * 2 ^ held k .r) (p * 2 ^ held k .r + 2 ^ held k .r - p * 2 ^ held k .r) t row')
-        u (putMid (c * 2 ^ held k .r) (c * 2 ^ held k .r + 2 ^ held k .r - c * 2 ^ held k .r) u choice') count
-    joined-child row' choice' count lr lc J = record {
-      costs = row-put (2 ^ held k .r) p t ft row' _ lr (λ x l. J .costs x (omega arith)
-          ∙ next-figure (net (held k)) (falls (held k) W) 20000000000 (nodes (held k) W) (links (held k) W) (small (held k) W) p c e hc row kid link hr hk hl x l);
-      choices = row-put (2 ^ held k .r) c u fu choice' _ lc (λ x l. J .choices x (omega arith)
-          ∙ next-choice (net (held k)) (falls (held k) W) 20000000000 (nodes (held k) W) (links (held k) W) (small (held k) W) p c e hc row kid link hr hk hl x l);
-      count = J .counted ∙ ap (counted-below row kid link) n
-          ∙ next-count (net (held k)) (falls (held k) W) 20000000000 (nodes (held k) W) (links (held k) W) (small (held k) W) p c e hc row kid link hr hk hl;
-    }
+    pub joined-child : (row' choice' : List ℕ) (count : ℕ) → length row' ≡ length (row-of size p t) → length choice' ≡ length (row-of size c u)
+        → Joined (row-of size p t) kid link row' choice' count → JoinedChild I p c t (put-row size p t row') u (put-row size c u choice') count
+    joined-child row' choice' count lr lc D =
+        let W = J .ready .well-formed in
+        let e = J .ready .row-size in
+        let at = row-length size p t (rooms .0 .row-costs) in
+        let holds = row-holds p (rooms .0 .row-costs) _ (J .row) in
+        record {
+          costs = subst (λ (z : ℕ). RowSet z p (λ x. figure (row-at (net I) p (suc c) x)) t (put-row size p t row')) e
+              (row-put size p t (rooms .0 .row-costs) row' _ (lr ∙ at) (λ x l. D .costs x (omega arith)
+              ∙ next-figure (net I) (falls I W) 20000000000 (nodes I W) (links I W) (small I W) p c (J .is-child) (J .within) _ kid link holds kid-holds link-holds x (omega arith)));
+          choices = subst (λ (z : ℕ). RowSet z c (choice-at (net I) c) u (put-row size c u choice')) e
+              (row-put size c u (rooms .1 .row-choices) choice' _ (lc ∙ row-length size c u (rooms .1 .row-choices)) (λ x l. D .choices x (omega arith)
+              ∙ next-choice (net I) (falls I W) 20000000000 (nodes I W) (links I W) (small I W) p c (J .is-child) (J .within) _ kid link holds kid-holds link-holds x (omega arith)));
+          count = D .counted ∙ ap (counted-below _ kid link) (at ∙ e)
+              ∙ next-count (net I) (falls I W) 20000000000 (nodes I W) (links I W) (small I W) p c (J .is-child) (J .within) _ kid link holds kid-holds link-holds;
+        }

@@ -56,25 +56,32 @@ module _ (a k : ℕ) (xs ys : List ℕ) (fits : a + k ≤ length xs) (same : len
 
 -- ---- a row lent
 
+-- the row of p, as the code lends it, and the table once such a row is back
+abbrev pub row-of : ℕ → ℕ → List ℕ → List ℕ
+row-of size p t = take (p * size + size - p * size) (drop (p * size) t)
+
+abbrev pub put-row : ℕ → ℕ → List ℕ → List ℕ → List ℕ
+put-row size p t ys = putMid (p * size) (p * size + size - p * size) t ys
+
 module _ (size p : ℕ) (t : List ℕ) (fits : p * size + size ≤ length t) where
   -- as long as a row is
-  pub row-length : length (take (p * size + size - p * size) (drop (p * size) t)) ≡ size
+  pub row-length : length (row-of size p t) ≡ size
   row-length =
       let e : p * size + size - p * size ≡ size = omega arith in
       rw e (length-take-le size (drop (p * size) t) (omega (arith, length-drop (p * size) t)))
 
   -- with the table's entries
-  pub row-entry : (x : ℕ) → x < size → getD (take (p * size + size - p * size) (drop (p * size) t)) x 0 ≡ entry size t p x
+  pub row-entry : (x : ℕ) → x < size → getD (row-of size p t) x 0 ≡ entry size t p x
   row-entry x h =
       getD-take (p * size + size - p * size) (drop (p * size) t) x 0 (omega arith) ∙ getD-drop (p * size) t x 0
 
   -- the table keeps its length
-  pub put-length : (ys : List ℕ) → length ys ≡ size → length (putMid (p * size) (p * size + size - p * size) t ys) ≡ length t
+  pub put-length : (ys : List ℕ) → length ys ≡ size → length (put-row size p t ys) ≡ length t
   put-length ys same = same-len-mid (p * size) (p * size + size - p * size) t ys (same ∙ sym row-length)
 
   -- the table with another row there
   pub row-put : (ys : List ℕ) (f : ℕ → ℕ) → length ys ≡ size → ((x : ℕ) → x < size → getD ys x 0 ≡ f x)
-      → RowSet size p f t (putMid (p * size) (p * size + size - p * size) t ys)
+      → RowSet size p f t (put-row size p t ys)
   row-put ys f same g = record {
     row = λ x h. mid-inside (p * size) (p * size + size - p * size) t ys (omega arith) (omega arith) x (omega arith) ∙ g x h;
     rest = λ d x n h. ⊎-elim

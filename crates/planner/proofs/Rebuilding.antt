@@ -1,13 +1,14 @@
 -- A row rebuilt child by child, and all rows one after the other.
 use Prim.Native.Nat.{ℕ, suc, _+_, _*_, _^_, _≤_, _<_}
 use native.Mathlib.Nat.{mul-le-mul-right, pow-le-pow-right}
+use native.Mathlib.Numerals.{add-one}
 use native.Mathlib.Omega.{arith}
 use mathlib.Core.Path.{_≡_, refl, sym, ap, _∙_, subst}
 use mathlib.Core.Bool.{Bool, true, false}
 use mathlib.Core.List.{List}
 use lib.ListN.{length}
-use lib.Dec.{eqb, ltb}
-use borrow.Author.Tests.{eqb-true, eqb-false, ltb-true, ltb-false}
+use lib.Dec.{eqb}
+use borrow.Author.Tests.{eqb-true, eqb-false}
 use Rattle.finite.specs.Below.{only}
 use Rattle.finite.proofs.Booleans.{clash}
 use Rattle.finite.proofs.Sums.{sum-le, only-le}
@@ -15,11 +16,14 @@ use Rattle.subsets.specs.Figures.{figure}
 use Rattle.subsets.specs.Rows.{child, choice-at}
 use Rattle.subsets.specs.Count as counts
 use Rattle.subsets.specs.Count.{pairs, flagged, joins}
-use Rattle.subsets.proofs.Count.{joins-child, pairs-le}
+use Rattle.subsets.proofs.Rows.{row-pass}
+use Rattle.subsets.proofs.Count.{joins-child, joins-pass, pairs-le}
 use Rattle.sheet.specs.Instance.{Instance, WellFormed}
+use Rattle.sheet.specs.declared.Cabinet.{Cabinet}
 use Rattle.embedding.specs.Charge.{cabinet-charge, net}
-use Rattle.planner.specs.Tables.{entry, RowSet, JoinedChild, Rebuilt}
-use Rattle.planner.proofs.Children.{row-skip, joins-skip, row-start, joins-start, none-up-to}
+use Rattle.planner.specs.Loaded.{cabinet-of}
+use Rattle.planner.specs.Tables.{entry, Ready, Flows, RowSet, Joinable, JoinedChild, Rebuilt, Above}
+use Rattle.planner.proofs.Children.{row-start, joins-start, none-up-to}
 
 -- a row set twice
 pub row-again : (size p : ℕ) (f g : ℕ → ℕ) (t t₁ t₂ : List ℕ) → RowSet size p f t t₁ → RowSet size p g t₁ t₂ → RowSet size p g t t₂
@@ -48,18 +52,14 @@ module _ (I : Instance) (W : WellFormed I) (p : ℕ) where
   }
 
   module _ (t u t₁ u₁ : List ℕ) (n c : ℕ) (R : Rebuilt I p c t t₁ u u₁ n) where
-    -- nodes that are no children are passed over
-    pub rebuilt-skip : (d : ℕ) → c ≤ d → ((b : ℕ) → c ≤ b → b < d → child (net I) p b ≡ false) → Rebuilt I p d t t₁ u u₁ n
-    rebuilt-skip d h none = record {
-      costs = record { row = λ x l. R .costs .row x l ∙ ap figure (sym (row-skip (net I) (W .parents) p c d h none x)); rest = R .costs .rest };
-      chosen = λ b x l e m. go b x l e m (ltb b c) refl;
-      kept = λ b x f m. R .kept b x (λ e. omega (arith, f e, h)) m;
-      count = R .count ∙ sym (joins-skip (net I) (W .parents) p c d h none);
+    -- a node that is no child is passed over
+    pub rebuilt-pass : child (net I) p c ≡ false → Rebuilt I p (suc c) t t₁ u u₁ n
+    rebuilt-pass not = record {
+      costs = record { row = λ x l. R .costs .row x l ∙ ap figure (sym (row-pass (net I) (W .parents) p c x not)); rest = R .costs .rest };
+      chosen = λ b x l e m. R .chosen b x (let ne : (b ≡ c → ⊥) = λ q. clash (sym e ∙ ap (child (net I) p) q ∙ not) in omega (arith, ne)) e m;
+      kept = λ b x f m. R .kept b x (λ e. omega (arith, f e)) m;
+      count = R .count ∙ sym (joins-pass (net I) p c not);
     }
-      where
-        go : (b x : ℕ) → b < d → child (net I) p b ≡ true → x < 2 ^ I .r → (s : Bool) → ltb b c ≡ s → entry (2 ^ I .r) u₁ b x ≡ choice-at (net I) b x
-        go b x l e m true q = R .chosen b x (ltb-true b c q) e m
-        go b x l e m false q = clash (sym e ∙ none b (ltb-false b c q) l)
 
     -- a child is joined
     pub rebuilt-join : (t₂ u₂ : List ℕ) (m : ℕ) → child (net I) p c ≡ true → JoinedChild I p c t₁ t₂ u₁ u₂ m → Rebuilt I p (suc c) t t₂ u u₂ (n + m)
@@ -74,37 +74,52 @@ module _ (I : Instance) (W : WellFormed I) (p : ℕ) where
         go b x l e h true q = subst (λ (z : ℕ). entry (2 ^ I .r) u₂ z x ≡ choice-at (net I) z x) (sym (eqb-true b c q)) (J .choices .row x h)
         go b x l e h false q = let z = eqb-false b c q in J .choices .rest b x z h ∙ R .chosen b x (omega (arith, z)) e h
 
--- ---- the loop over children: the next child is c, or there is none left and c is s
+-- ---- the loop over cabinets: those below c are passed or joined
 pub record Children (I : Instance) (p c : ℕ) (t t₁ u u₁ : List ℕ) (n : ℕ) : Type 0 where
   pub after : p < c
   pub within : c ≤ I .s
-  pub next : c < I .s → child (net I) p c ≡ true
   pub costs-length : length t₁ ≡ length t
   pub choices-length : length u₁ ≡ length u
   pub rebuilt : Rebuilt I p c t t₁ u u₁ n
 
-module _ (I : Instance) (W : WellFormed I) (p : ℕ) where
-  pub children-start : (t u : List ℕ) → ((x : ℕ) → x < 2 ^ I .r → entry (2 ^ I .r) t p x ≡ figure (cabinet-charge I p x))
-      → (d : ℕ) → p + 1 ≤ d → d ≤ I .s → (d < I .s → child (net I) p d ≡ true) → ((b : ℕ) → p + 1 ≤ b → b < d → child (net I) p b ≡ false)
-      → Children I p d t t u u 0
-  children-start t u h d l m is none = record {
+module _ {I : Instance} (W : WellFormed I) {p : ℕ} where
+  pub children-start : {t u : List ℕ} → p < I .s → ((x : ℕ) → x < 2 ^ I .r → entry (2 ^ I .r) t p x ≡ figure (cabinet-charge I p x)) → Children I p (p + 1) t t u u 0
+  children-start {t} {u} l h = record {
     after = omega arith;
-    within = m;
-    next = is;
+    within = omega arith;
     costs-length = refl;
     choices-length = refl;
-    rebuilt = rebuilt-skip I W p t u t u 0 (suc p) (rebuilt-start I W p t u h) d (omega arith) (λ b i j. none b (omega arith) j);
+    rebuilt = rw add-one (rebuilt-start I W p t u h);
   }
 
-  pub children-next : (t u t₁ u₁ : List ℕ) (n c : ℕ) → Children I p c t t₁ u u₁ n → c < I .s
-      → (t₂ u₂ : List ℕ) (m : ℕ) → JoinedChild I p c t₁ t₂ u₁ u₂ m → length t₂ ≡ length t₁ → length u₂ ≡ length u₁
-      → (d : ℕ) → c + 1 ≤ d → d ≤ I .s → (d < I .s → child (net I) p d ≡ true) → ((b : ℕ) → c + 1 ≤ b → b < d → child (net I) p b ≡ false)
-      → Children I p d t t₂ u u₂ (n + m)
-  children-next t u t₁ u₁ n c C h t₂ u₂ m J lt lu d l k is none = record {
-    after = omega (arith, C .after);
-    within = k;
-    next = is;
-    costs-length = lt ∙ C .costs-length;
-    choices-length = lu ∙ C .choices-length;
-    rebuilt = rebuilt-skip I W p t u t₂ u₂ (n + m) (suc c) (rebuilt-join I W p t u t₁ u₁ n c (C .rebuilt) t₂ u₂ m (C .next h) J) d (omega arith) (λ b i j. none b (omega arith) j);
-  }
+  module _ {t u t₁ u₁ : List ℕ} {n c : ℕ} (C : Children I p c t t₁ u u₁ n) (l : c < I .s) where
+    pub children-pass : child (net I) p c ≡ false → Children I p (c + 1) t t₁ u u₁ n
+    children-pass not = record {
+      after = omega (arith, C .after);
+      within = omega arith;
+      costs-length = C .costs-length;
+      choices-length = C .choices-length;
+      rebuilt = rw add-one (rebuilt-pass I W p t u t₁ u₁ n c (C .rebuilt) not);
+    }
+
+    module _ (is : child (net I) p c ≡ true) where
+      -- a child can be joined where the rows after p are filled
+      pub joinable : {k : Cabinet} {size : ℕ} {outs ins : List ℕ} → k ≡ cabinet-of I c → Ready I size t u → Flows I outs ins → Above I p t → Joinable I k p c size outs ins t₁ u₁
+      joinable e R F A = record {
+        ready = record { well-formed = W; row-size = R .row-size; costs = C .costs-length ∙ R .costs; choices = C .choices-length ∙ R .choices };
+        flows = F;
+        cabinet = e;
+        within = l;
+        is-child = is;
+        row = C .rebuilt .costs .row;
+        child-row = λ x h. C .rebuilt .costs .rest c x (λ q. omega (arith, C .after)) h ∙ A c x (C .after) l h;
+      }
+
+      pub children-join : {t₂ u₂ : List ℕ} {m : ℕ} → JoinedChild I p c t₁ t₂ u₁ u₂ m → length t₂ ≡ length t₁ → length u₂ ≡ length u₁ → Children I p (c + 1) t t₂ u u₂ (n + m)
+      children-join {t₂} {u₂} {m} J lt lu = record {
+        after = omega (arith, C .after);
+        within = omega arith;
+        costs-length = lt ∙ C .costs-length;
+        choices-length = lu ∙ C .choices-length;
+        rebuilt = rw add-one (rebuilt-join I W p t u t₁ u₁ n c (C .rebuilt) t₂ u₂ m is J);
+      }

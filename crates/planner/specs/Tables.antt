@@ -12,8 +12,10 @@ use Rattle.subsets.specs.Figures.{figure}
 use Rattle.subsets.specs.Rows.{child, row-at, choice-at}
 use Rattle.subsets.specs.Count.{pairs, flagged, joins}
 use Rattle.sheet.specs.Instance.{Instance, WellFormed}
+use Rattle.sheet.specs.declared.Cabinet.{Cabinet}
 use Rattle.embedding.specs.Charge.{leaving, entering, net}
 use Rattle.embedding.specs.Splits.{weighed}
+use Rattle.planner.specs.Loaded.{cabinet-of}
 
 -- the entry for cabinet p and the set x, where a row has so many entries
 abbrev pub entry : ℕ → List ℕ → ℕ → ℕ → ℕ
@@ -38,11 +40,15 @@ pub record Ready (I : Instance) (size : ℕ) (t u : List ℕ) : Type 0 where
   pub costs : length t ≡ I .s * size
   pub choices : length u ≡ I .s * size
 
--- the demand of each set, and what runs out of it and into it
-pub record Summed (I : Instance) (demands outs ins : List ℕ) : Type 0 where
-  pub demand : (x : ℕ) → x < 2 ^ I .r → getD demands x 0 ≡ sum-below (I .r) (λ i. only (has x i) (I .demand i))
+-- what runs out of each set, and into it
+pub record Flows (I : Instance) (outs ins : List ℕ) : Type 0 where
   pub leaves : (x : ℕ) → x < 2 ^ I .r → getD outs x 0 ≡ leaving I (I .load) (has x)
   pub enters : (x : ℕ) → x < 2 ^ I .r → getD ins x 0 ≡ entering I (I .load) (has x)
+
+-- and the demand of each set
+pub record Summed (I : Instance) (demands outs ins : List ℕ) : Type 0 where
+  pub demand : (x : ℕ) → x < 2 ^ I .r → getD demands x 0 ≡ sum-below (I .r) (λ i. only (has x i) (I .demand i))
+  pub flows : Flows I outs ins
 
 -- both tables filled, and the splits weighed on the way
 pub record Filled (I : Instance) (t u : List ℕ) (n : ℕ) : Type 0 where
@@ -54,6 +60,16 @@ pub record Filled (I : Instance) (t u : List ℕ) (n : ℕ) : Type 0 where
 pub record RowSet (size p : ℕ) (f : ℕ → ℕ) (t t' : List ℕ) : Type 0 where
   pub row : (x : ℕ) → x < size → entry size t' p x ≡ f x
   pub rest : (d x : ℕ) → (d ≡ p → ⊥) → x < size → entry size t' d x ≡ entry size t d x
+
+-- c, whose record is k, is the next child of p to be joined: p's row is the least charge with the children before it, and c's row is filled
+pub record Joinable (I : Instance) (k : Cabinet) (p c size : ℕ) (outs ins t u : List ℕ) : Type 0 where
+  pub ready : Ready I size t u
+  pub flows : Flows I outs ins
+  pub cabinet : k ≡ cabinet-of I c
+  pub within : c < I .s
+  pub is-child : child (net I) p c ≡ true
+  pub row : (x : ℕ) → x < 2 ^ I .r → entry (2 ^ I .r) t p x ≡ figure (row-at (net I) p c x)
+  pub child-row : (x : ℕ) → x < 2 ^ I .r → entry (2 ^ I .r) t c x ≡ cost-entry I c x
 
 -- the child c of p joined: p's row is the least charge with c and all under it, and c's choices are the winners
 pub record JoinedChild (I : Instance) (p c : ℕ) (t t' u u' : List ℕ) (n : ℕ) : Type 0 where

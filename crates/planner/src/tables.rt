@@ -1,14 +1,12 @@
 // The cost table and the choice table: a row of 2^r entries for each cabinet, in cabinet order.
 ghost use mathlib.Core.Path.{_≡_};
-ghost use mathlib.Core.Bool.{true, false};
 ghost use Prim.Native.Nat.{ℕ, _+_, _^_, _≤_, _<_};
-ghost use mathlib.Core.List.{List};
 ghost use lib.ListN.{length, getD, replicate};
 ghost use Rattle.subsets.specs.Figures.{figure};
-ghost use Rattle.subsets.specs.Rows.{child, row-at};
-ghost use Rattle.embedding.specs.Charge.{cabinet-charge, net};
+ghost use Rattle.sheet.specs.Instance.{Instance};
+ghost use Rattle.embedding.specs.Charge.{cabinet-charge};
 ghost use Rattle.planner.specs.Loaded.{held};
-ghost use Rattle.planner.specs.Tables.{entry, cost-entry, Above, Ready, Summed, Filled, JoinedChild, Rebuilt};
+ghost use Rattle.planner.specs.Tables.{entry, Above, Ready, Flows, Summed, Filled, Joinable, JoinedChild, Rebuilt};
 use crate::Records;
 use crate::SETS;
 use crate::charges::demand_sums;
@@ -16,6 +14,7 @@ use crate::charges::fill_own;
 use crate::charges::flow_sums;
 use crate::charges::link_row;
 use crate::joins::join;
+use sheet::Cabinet;
 
 // Copies a row.
 fn copy_row(copy: &mut [u64; SETS], row: &[u64])
@@ -29,43 +28,20 @@ fn copy_row(copy: &mut [u64; SETS], row: &[u64])
     }
 }
 
-// The first child of p from c on, or the number of cabinets where there is none.
-fn next_child(records: Records, p: usize, c: usize) -> usize
-    requires { ⌜ (0 < c) × (c ≤ held records .s) × (held records .s ≤ 200) ⌝ }
-    ensures bounds { λ d. ⌜ (c ≤ d) × (d ≤ held records .s) ⌝ }
-    ensures found { λ d. ⌜ (d < held records .s → child (net (held records)) p d ≡ true) ⌝ }
-    ensures passed { λ d. ⌜ ((b : ℕ) → c ≤ b → b < d → child (net (held records)) p b ≡ false) ⌝ }
-{
-    let n = records.cabinets;
-    let mut d = c;
-    while d < n {
-        let k = records.cabinet[d];
-        if k.parent == p {
-            return d;
-        }
-        d += 1;
-    }
-    n
-}
-
-// Joins the row of p's child c into that of p. The child's row is copied first, since two rows of one table cannot be lent at once.
+// Joins the row of p's child c, whose record is k, into that of p. The child's row is copied first, since two rows of one table cannot be lent at once.
 fn join_child(
     costs: &mut [u64],
     choices: &mut [u16],
-    records: Records,
+    k: Cabinet,
     leaving: &[u64; SETS],
     entering: &[u64; SETS],
     p: usize,
     c: usize,
     size: usize,
 ) -> u64
-    requires ready { ⌜ Ready (held records) size (now costs) (now choices) ⌝ }
-    requires flows { ⌜ ((demands : List ℕ) × Summed (held records) demands (now leaving) (now entering)) ⌝ }
-    requires child { ⌜ (c < held records .s) × (child (net (held records)) p c ≡ true) ⌝ }
-    requires rows { ⌜ ((x : ℕ) → x < 2 ^ held records .r →
-        (entry (2 ^ held records .r) (now costs) p x ≡ figure (row-at (net (held records)) p c x))
-        × (entry (2 ^ held records .r) (now costs) c x ≡ cost-entry (held records) c x)) ⌝ }
-    ensures { λ n. ⌜ JoinedChild (held records) p c (now (costs .entry)) (now (costs .exit)) (now (choices .entry)) (now (choices .exit)) n ⌝ }
+    requires { ⌜ ((I : Instance) × Joinable I k p c size (now leaving) (now entering) (now costs) (now choices)) ⌝ }
+    ensures { λ n. ⌜ ((I : Instance) → Joinable I k p c size (now (leaving .entry)) (now (entering .entry)) (now (costs .entry)) (now (choices .entry))
+        → JoinedChild I p c (now (costs .entry)) (now (costs .exit)) (now (choices .entry)) (now (choices .exit)) n) ⌝ }
 {
     let at = p * size;
     let end = at + size;
@@ -73,7 +49,6 @@ fn join_child(
     let below_end = below + size;
     let mut child = [0u64; SETS];
     copy_row(&mut child, &costs[below..below_end]);
-    let k = records.cabinet[c];
     let mut link = [0u64; SETS];
     link_row(&mut link, leaving, entering, k, size);
     join(
@@ -95,17 +70,22 @@ fn join_children(
     size: usize,
 ) -> u64
     requires ready { ⌜ Ready (held records) size (now costs) (now choices) ⌝ }
-    requires flows { ⌜ ((demands : List ℕ) × Summed (held records) demands (now leaving) (now entering)) ⌝ }
+    requires flows { ⌜ Flows (held records) (now leaving) (now entering) ⌝ }
     requires above { ⌜ (p < held records .s) × Above (held records) p (now costs) ⌝ }
     requires alone { ⌜ ((x : ℕ) → x < 2 ^ held records .r → entry (2 ^ held records .r) (now costs) p x ≡ figure (cabinet-charge (held records) p x)) ⌝ }
     ensures { λ n. ⌜ Rebuilt (held records) p (held records .s) (now (costs .entry)) (now (costs .exit)) (now (choices .entry)) (now (choices .exit)) n ⌝ }
 {
     let n = records.cabinets;
     let mut count: u64 = 0;
-    let mut c = next_child(records, p, p + 1);
+    let mut c = p + 1;
     while c < n {
-        count += join_child(costs, choices, records, leaving, entering, p, c, size);
-        c = next_child(records, p, c + 1);
+        let d = c;
+        c += 1;
+        let k = records.cabinet[d];
+        if k.parent != p {
+            continue;
+        }
+        count += join_child(costs, choices, k, leaving, entering, p, d, size);
     }
     count
 }

@@ -7,10 +7,10 @@ use lib.ListN.{length}
 use borrow.Rule.Slice.PartMut.{putMid}
 use Rattle.subsets.specs.Figures.{figure}
 use Rattle.embedding.specs.Charge.{cabinet-charge}
-use Rattle.planner.specs.Loaded.{held}
+use Rattle.planner.specs.Loaded.{held, cabinet-of}
 use Rattle.planner.specs.Sums.{own-figure}
 use Rattle.planner.specs.Tables.{RowSet}
-use Rattle.planner.proofs.Charging.{cabinet-of, own-is, demand-small}
+use Rattle.planner.proofs.Charging.{own-is, demand-small}
 use Rattle.planner.proofs.Parted.{Room, room, row-length, put-length, row-put}
 use Rattle.planner.proofs.Rebuilding.{row-again}
 use Rattle.planner.proofs.tables.rebuild.Statement.{statement}
@@ -26,6 +26,7 @@ row-kept c = let a = c .before .before .before .before .before .before .before .
 -- its own charges stand in it
 own-row : (c : tie.After-join-children-arg2) → RowSet (2 ^ held (c .before .before .before .before .before .before .before .before .before .args .t3) .r) (c .before .before .before .before .before .before .before .before .before .args .p) (λ x. figure (cabinet-charge (held (c .before .before .before .before .before .before .before .before .before .args .t3)) (c .before .before .before .before .before .before .before .before .before .args .p) x))
     (c .before .before .before .before .before .before .before .before .before .args .costs .now) (putMid (c .before .before .before .before .before .before .before .before .before .args .p * c .before .before .before .before .before .before .before .before .before .args .size) (c .before .before .before .before .before .before .before .before .before .args .p * c .before .before .before .before .before .before .before .before .before .args .size + c .before .before .before .before .before .before .before .before .before .args .size - c .before .before .before .before .before .before .before .before .before .args .p * c .before .before .before .before .before .before .before .before .before .args .size) (c .before .before .before .before .before .before .before .before .before .args .costs .now) (c .before .before .before .before .fill-own .last .0))
+unfolding held
 own-row c =
     let a = c .before .before .before .before .before .before .before .before .before .args in
     let P = c .before .before .before .before .before .before .before .before .before .pre in
@@ -35,7 +36,7 @@ own-row c =
     (putMid (a .p * a .size) (a .p * a .size + a .size - a .p * a .size) (a .costs .now) (c .before .before .before .before .fill-own .last .0))) (P .0 .row-size)
     (row-put (a .size) (a .p) (a .costs .now) fits (c .before .before .before .before .fill-own .last .0) (λ x. figure (cabinet-charge I (a .p) x)) (row-kept c)
     (λ x l. c .before .before .before .before .fill-own .ensures x (omega (arith, row-length (a .size) (a .p) (a .costs .now) fits))
-    ∙ ap (own-figure (cabinet-of (a .t3) (a .p))) (P .1 .0 .demand x (omega (arith, P .0 .row-size))) ∙ own-is (a .t3) (a .p) x))
+    ∙ ap (own-figure (cabinet-of (held (a .t3)) (a .p))) (P .1 .0 .demand x (omega (arith, P .0 .row-size))) ∙ own-is (held (a .t3)) (a .p) x))
 
 mul-k : tie.Need-mul-k
 mul-k c = omega (arith, c .before .before .pre .0 .well-formed .cabinets)
@@ -84,7 +85,7 @@ join-children-requires c κs =
         costs = put-length (a .size) (a .p) (a .costs .now) (space (c .before .before .before .before .before .before .before .before .before) .row-costs) (c .before .before .before .before .fill-own .last .0) (row-kept c) ∙ P .0 .costs;
         choices = P .0 .choices;
       },
-      ((a .demands .now, P .1 .0), ((P .1 .1 .0, λ d x l m h. O .rest d x (λ e. omega arith) h ∙ P .1 .1 .1 d x l m h), O .row)),
+      (P .1 .0 .flows, ((P .1 .1 .0, λ d x l m h. O .rest d x (λ e. omega arith) h ∙ P .1 .1 .1 d x l m h), O .row)),
     )
 
 same-length : tie.Need-same-length
