@@ -1,4 +1,4 @@
--- A row rebuilt child by child, and all rows one after the other.
+-- A row rebuilt: its own charges, then child by child.
 use Prim.Native.Nat.{ℕ, suc, _+_, _*_, _^_, _≤_, _<_}
 use native.Mathlib.Nat.{mul-le-mul-right, pow-le-pow-right}
 use native.Mathlib.Numerals.{add-one}
@@ -6,7 +6,7 @@ use native.Mathlib.Omega.{arith}
 use mathlib.Core.Path.{_≡_, refl, sym, ap, _∙_, subst}
 use mathlib.Core.Bool.{Bool, true, false}
 use mathlib.Core.List.{List}
-use lib.ListN.{length}
+use lib.ListN.{length, getD}
 use lib.Dec.{eqb}
 use borrow.Author.Tests.{eqb-true, eqb-false}
 use Rattle.finite.specs.Below.{only}
@@ -22,7 +22,10 @@ use Rattle.sheet.specs.Instance.{Instance, WellFormed}
 use Rattle.sheet.specs.declared.Cabinet.{Cabinet}
 use Rattle.embedding.specs.Charge.{cabinet-charge, net}
 use Rattle.planner.specs.Loaded.{cabinet-of}
-use Rattle.planner.specs.Tables.{entry, Ready, Flows, RowSet, Joinable, JoinedChild, Rebuilt, Above}
+use Rattle.planner.specs.Sums.{own-figure}
+use Rattle.planner.specs.Tables.{entry, Ready, Flows, Summed, RowSet, Joinable, JoinedChild, Rebuilt, Above}
+use Rattle.planner.proofs.Charging.{own-is}
+use Rattle.planner.proofs.Parted.{room, row-of, put-row, row-length, put-length, row-put}
 use Rattle.planner.proofs.Children.{row-start, joins-start, none-up-to}
 
 -- a row set twice
@@ -73,6 +76,28 @@ module _ (I : Instance) (W : WellFormed I) (p : ℕ) where
         go : (b x : ℕ) → b < suc c → child (net I) p b ≡ true → x < 2 ^ I .r → (s : Bool) → eqb b c ≡ s → entry (2 ^ I .r) u₂ b x ≡ choice-at (net I) b x
         go b x l e h true q = subst (λ (z : ℕ). entry (2 ^ I .r) u₂ z x ≡ choice-at (net I) z x) (sym (eqb-true b c q)) (J .choices .row x h)
         go b x l e h false q = let z = eqb-false b c q in J .choices .rest b x z h ∙ R .chosen b x (omega (arith, z)) e h
+
+-- ---- the row of p with its own charges alone: it is filled first
+pub record Alone (I : Instance) (p size : ℕ) (t t₀ u : List ℕ) : Type 0 where
+  pub ready : Ready I size t₀ u
+  pub own : RowSet (2 ^ I .r) p (λ x. figure (cabinet-charge I p x)) t t₀
+  pub above : Above I p t₀
+
+pub alone : {I : Instance} {p size : ℕ} {t u demands outs ins : List ℕ} → Ready I size t u → Summed I demands outs ins → p < I .s → Above I p t
+    → (ys : List ℕ) → length ys ≡ length (row-of size p t) → ((x : ℕ) → x < length (row-of size p t) → getD ys x 0 ≡ own-figure (cabinet-of I p) (getD demands x 0))
+    → Alone I p size t (put-row size p t ys) u
+alone {I} {p} {size} {t} {u} R S l A ys same filled =
+    let fits = room I size t u R p l .row-costs in
+    let long = row-length size p t fits in
+    let own : RowSet (2 ^ I .r) p (λ x. figure (cabinet-charge I p x)) t (put-row size p t ys) =
+    subst (λ (z : ℕ). RowSet z p (λ x. figure (cabinet-charge I p x)) t (put-row size p t ys)) (R .row-size)
+    (row-put size p t fits ys _ (same ∙ long)
+    (λ x h. filled x (omega arith) ∙ ap (own-figure (cabinet-of I p)) (S .demand x (omega (arith, R .row-size))) ∙ own-is I p x)) in
+    record {
+      ready = record { well-formed = R .well-formed; row-size = R .row-size; costs = put-length size p t fits ys (same ∙ long) ∙ R .costs; choices = R .choices };
+      own = own;
+      above = λ d x k m h. own .rest d x (λ e. omega arith) h ∙ A d x k m h;
+    }
 
 -- ---- the loop over cabinets: those below c are passed or joined
 pub record Children (I : Instance) (p c : ℕ) (t t₁ u u₁ : List ℕ) (n : ℕ) : Type 0 where

@@ -2,11 +2,9 @@
 ghost use mathlib.Core.Path.{_≡_};
 ghost use Prim.Native.Nat.{ℕ, _+_, _^_, _≤_, _<_};
 ghost use lib.ListN.{length, getD, replicate};
-ghost use Rattle.subsets.specs.Figures.{figure};
 ghost use Rattle.sheet.specs.Instance.{Instance};
-ghost use Rattle.embedding.specs.Charge.{cabinet-charge};
 ghost use Rattle.planner.specs.Loaded.{held};
-ghost use Rattle.planner.specs.Tables.{entry, Above, Ready, Flows, Summed, Filled, Joinable, JoinedChild, Rebuilt};
+ghost use Rattle.planner.specs.Tables.{entry, Above, Ready, Summed, Filled, Joinable, JoinedChild, Rebuilt};
 use crate::Records;
 use crate::SETS;
 use crate::charges::demand_sums;
@@ -59,38 +57,7 @@ fn join_child(
     )
 }
 
-// Joins the children of p into its row, in rising order. Gives the splits counted.
-fn join_children(
-    costs: &mut [u64],
-    choices: &mut [u16],
-    records: Records,
-    leaving: &[u64; SETS],
-    entering: &[u64; SETS],
-    p: usize,
-    size: usize,
-) -> u64
-    requires ready { ⌜ Ready (held records) size (now costs) (now choices) ⌝ }
-    requires flows { ⌜ Flows (held records) (now leaving) (now entering) ⌝ }
-    requires above { ⌜ (p < held records .s) × Above (held records) p (now costs) ⌝ }
-    requires alone { ⌜ ((x : ℕ) → x < 2 ^ held records .r → entry (2 ^ held records .r) (now costs) p x ≡ figure (cabinet-charge (held records) p x)) ⌝ }
-    ensures { λ n. ⌜ Rebuilt (held records) p (held records .s) (now (costs .entry)) (now (costs .exit)) (now (choices .entry)) (now (choices .exit)) n ⌝ }
-{
-    let n = records.cabinets;
-    let mut count: u64 = 0;
-    let mut c = p + 1;
-    while c < n {
-        let d = c;
-        c += 1;
-        let k = records.cabinet[d];
-        if k.parent != p {
-            continue;
-        }
-        count += join_child(costs, choices, k, leaving, entering, p, d, size);
-    }
-    count
-}
-
-// Rebuilds the row of p: its own charges, then its children joined. Gives the splits counted.
+// Rebuilds the row of p: its own charges, then its children joined, in rising order. Gives the splits counted.
 pub fn rebuild(
     costs: &mut [u64],
     choices: &mut [u16],
@@ -106,11 +73,23 @@ pub fn rebuild(
     requires above { ⌜ (p < held records .s) × Above (held records) p (now costs) ⌝ }
     ensures { λ n. ⌜ Rebuilt (held records) p (held records .s) (now (costs .entry)) (now (costs .exit)) (now (choices .entry)) (now (choices .exit)) n ⌝ }
 {
-    let k = records.cabinet[p];
+    let n = records.cabinets;
+    let own = records.cabinet[p];
     let at = p * size;
     let end = at + size;
-    fill_own(&mut costs[at..end], demands, k);
-    join_children(costs, choices, records, leaving, entering, p, size)
+    fill_own(&mut costs[at..end], demands, own);
+    let mut count: u64 = 0;
+    let mut c = p + 1;
+    while c < n {
+        let d = c;
+        c += 1;
+        let k = records.cabinet[d];
+        if k.parent != p {
+            continue;
+        }
+        count += join_child(costs, choices, k, leaving, entering, p, d, size);
+    }
+    count
 }
 
 // Rebuilds all rows, from the last cabinet to the first. Gives the splits counted.

@@ -1,68 +1,53 @@
--- `rebuild` meets its contract: the row of p is lent and filled with its own charges, then its children are joined.
-use Prim.Native.Nat.{ℕ, _+_, _-_, _*_, _^_}
+-- `rebuild` meets its contract: the row of p is lent and filled with its own charges, then its children are joined, cabinet by cabinet.
+use Prim.Native.Nat.{ℕ, _+_, _-_, _^_}
 use native.Mathlib.Omega.{arith}
-use mathlib.Core.Path.{_≡_, ap, _∙_, subst}
+use mathlib.Core.Path.{_≡_, refl, sym, _∙_, subst}
 use borrow.Author.Needs.{needs}
-use lib.ListN.{length}
-use borrow.Rule.Slice.PartMut.{putMid}
-use Rattle.subsets.specs.Figures.{figure}
-use Rattle.embedding.specs.Charge.{cabinet-charge}
-use Rattle.planner.specs.Loaded.{held, cabinet-of}
-use Rattle.planner.specs.Sums.{own-figure}
-use Rattle.planner.specs.Tables.{RowSet}
-use Rattle.planner.proofs.Charging.{own-is, demand-small}
-use Rattle.planner.proofs.Parted.{Room, room, row-length, put-length, row-put}
-use Rattle.planner.proofs.Rebuilding.{row-again}
+use Rattle.embedding.specs.Charge.{net}
+use Rattle.planner.specs.Loaded.{held}
+use Rattle.planner.specs.Tables.{Rebuilt}
+use Rattle.planner.proofs.Charging.{demand-small}
+use Rattle.planner.proofs.Children.{child-is, child-not}
+use Rattle.planner.proofs.Parted.{Room, room, row-length, put-row}
+use Rattle.planner.proofs.Rebuilding.{Alone, Children, row-again, joins-le, alone, children-start, children-pass, children-join, joinable}
 use Rattle.planner.proofs.tables.rebuild.Statement.{statement}
 use Rattle.planner.proofs.tables.rebuild.Tie as tie
 
+abbrev Inv-loop : tie.InvT-loop
+Inv-loop costs₀ choices₀ demands leaving entering p size records n at end count₀ c₀ costs choices count c = Children (held records) p c costs₀ costs choices₀ choices count
+
+abbrev μ-loop : tie.MeasureT-loop
+μ-loop costs₀ choices₀ demands leaving entering p size records n at end count₀ c₀ costs choices count c = n - c
+
 -- the row of p lies within both tables
-space : (c : tie.Start) → Room (held (c .args .t3)) (c .args .size) (c .args .costs .now) (c .args .choices .now) (c .args .p)
+space : (c : tie.Start Inv-loop μ-loop) → Room (held (c .args .t3)) (c .args .size) (c .args .costs .now) (c .args .choices .now) (c .args .p)
 space c = room _ _ _ _ (c .pre .0) (c .args .p) (c .pre .1 .1 .0)
 
-row-kept : (c : tie.After-join-children-arg2) → length (c .before .before .before .before .fill-own .last .0) ≡ c .before .before .before .before .before .before .before .before .before .args .size
-row-kept c = let a = c .before .before .before .before .before .before .before .before .before .args in c .before .before .before .before .fill-own .kept .0 ∙ row-length (a .size) (a .p) (a .costs .now) (space (c .before .before .before .before .before .before .before .before .before) .row-costs)
+mul-own : tie.Need-mul-own Inv-loop μ-loop
+mul-own c = omega (arith, c .before .before .pre .0 .well-formed .cabinets)
 
--- its own charges stand in it
-own-row : (c : tie.After-join-children-arg2) → RowSet (2 ^ held (c .before .before .before .before .before .before .before .before .before .args .t3) .r) (c .before .before .before .before .before .before .before .before .before .args .p) (λ x. figure (cabinet-charge (held (c .before .before .before .before .before .before .before .before .before .args .t3)) (c .before .before .before .before .before .before .before .before .before .args .p) x))
-    (c .before .before .before .before .before .before .before .before .before .args .costs .now) (putMid (c .before .before .before .before .before .before .before .before .before .args .p * c .before .before .before .before .before .before .before .before .before .args .size) (c .before .before .before .before .before .before .before .before .before .args .p * c .before .before .before .before .before .before .before .before .before .args .size + c .before .before .before .before .before .before .before .before .before .args .size - c .before .before .before .before .before .before .before .before .before .args .p * c .before .before .before .before .before .before .before .before .before .args .size) (c .before .before .before .before .before .before .before .before .before .args .costs .now) (c .before .before .before .before .fill-own .last .0))
-unfolding held
-own-row c =
-    let a = c .before .before .before .before .before .before .before .before .before .args in
-    let P = c .before .before .before .before .before .before .before .before .before .pre in
-    let I = held (a .t3) in
-    let fits = space (c .before .before .before .before .before .before .before .before .before) .row-costs in
-    subst (λ (z : ℕ). RowSet z (a .p) (λ x. figure (cabinet-charge I (a .p) x)) (a .costs .now)
-    (putMid (a .p * a .size) (a .p * a .size + a .size - a .p * a .size) (a .costs .now) (c .before .before .before .before .fill-own .last .0))) (P .0 .row-size)
-    (row-put (a .size) (a .p) (a .costs .now) fits (c .before .before .before .before .fill-own .last .0) (λ x. figure (cabinet-charge I (a .p) x)) (row-kept c)
-    (λ x l. c .before .before .before .before .fill-own .ensures x (omega (arith, row-length (a .size) (a .p) (a .costs .now) fits))
-    ∙ ap (own-figure (cabinet-of (held (a .t3)) (a .p))) (P .1 .0 .demand x (omega (arith, P .0 .row-size))) ∙ own-is (held (a .t3)) (a .p) x))
+element-copy-out-own : tie.Need-element-copy-out-own Inv-loop μ-loop
+element-copy-out-own c = omega (arith, c .before .before .pre .0 .well-formed .cabinets)
 
-mul-k : tie.Need-mul-k
-mul-k c = omega (arith, c .before .before .pre .0 .well-formed .cabinets)
-
-element-copy-out-k : tie.Need-element-copy-out-k
-element-copy-out-k c = omega (arith, c .before .before .pre .0 .well-formed .cabinets)
-
-mul-at : tie.Need-mul-at
+mul-at : tie.Need-mul-at Inv-loop μ-loop
 mul-at c = omega (arith, space (c .before .before .before))
 
-add-end : tie.Need-add-end
+add-end : tie.Need-add-end Inv-loop μ-loop
 add-end c = omega (arith, space (c .before .before .before))
 
-mul-fill-own : tie.Need-mul-fill-own
+mul-fill-own : tie.Need-mul-fill-own Inv-loop μ-loop
 mul-fill-own c = omega (arith, space (c .before .before .before))
 
-sub-fill-own : tie.Need-sub-fill-own
+sub-fill-own : tie.Need-sub-fill-own Inv-loop μ-loop
 sub-fill-own c = search needs
 
-part-fill-own-start : tie.Need-part-fill-own-start
+part-fill-own-start : tie.Need-part-fill-own-start Inv-loop μ-loop
 part-fill-own-start c = search needs
 
-part-fill-own-end : tie.Need-part-fill-own-end
+part-fill-own-end : tie.Need-part-fill-own-end Inv-loop μ-loop
 part-fill-own-end c = omega (arith, space (c .before .before .before))
 
-fill-own-requires : tie.Need-fill-own-requires
+fill-own-requires : tie.Need-fill-own-requires Inv-loop μ-loop
 unfolding held
 fill-own-requires c κs =
     let a = c .before .before .before .before .args in
@@ -74,43 +59,98 @@ fill-own-requires c κs =
       λ x l. demand-small (held (a .t3)) W (a .demands .now) (a .leaving .now) (a .entering .now) (P .1 .0) x (omega (arith, e, P .0 .row-size)),
     )
 
-join-children-requires : tie.Need-join-children-requires
-join-children-requires c κs =
-    let a = c .before .before .before .before .before .before .before .before .before .args in
-    let P = c .before .before .before .before .before .before .before .before .before .pre in
-    let O = own-row c in (
-      record {
-        well-formed = P .0 .well-formed;
-        row-size = P .0 .row-size;
-        costs = put-length (a .size) (a .p) (a .costs .now) (space (c .before .before .before .before .before .before .before .before .before) .row-costs) (c .before .before .before .before .fill-own .last .0) (row-kept c) ∙ P .0 .costs;
-        choices = P .0 .choices;
-      },
-      (P .1 .0 .flows, ((P .1 .1 .0, λ d x l m h. O .rest d x (λ e. omega arith) h ∙ P .1 .1 .1 d x l m h), O .row)),
-    )
+-- its own charges stand in it
+charged : (c : tie.After-slice-known3 Inv-loop μ-loop)
+    → Alone (held (c .before .before .before .before .before .before .before .args .t3)) (c .before .before .before .before .before .before .before .args .p) (c .before .before .before .before .before .before .before .args .size) (c .before .before .before .before .before .before .before .args .costs .now) (put-row (c .before .before .before .before .before .before .before .args .size) (c .before .before .before .before .before .before .before .args .p) (c .before .before .before .before .before .before .before .args .costs .now) (c .before .before .fill-own .last .0)) (c .before .before .before .before .before .before .before .args .choices .now)
+unfolding held
+charged c =
+    let P = c .before .before .before .before .before .before .before .pre in
+    let F = c .before .before .fill-own in
+    alone (P .0) (P .1 .0) (P .1 .1 .0) (P .1 .1 .1) (F .last .0) (F .kept .0) (F .ensures)
 
-same-length : tie.Need-same-length
-same-length c = search needs
+add-c : tie.Need-add-c Inv-loop μ-loop
+add-c c = omega (arith, c .before .before .before .before .before .before .before .pre .0 .well-formed .cabinets, c .before .before .before .before .before .before .before .pre .1 .1 .0)
 
-same-length-2 : tie.Need-same-length-2
-same-length-2 c = search needs
+loop-holds : tie.Need-loop-holds Inv-loop μ-loop
+loop-holds c = children-start (c .before .before .before .before .before .before .before .pre .0 .well-formed) (c .before .before .before .before .before .before .before .pre .1 .1 .0) (charged c .own .row)
 
-returns : tie.Need-returns
+add-c-2 : tie.Need-add-c-2 Inv-loop μ-loop
+unfolding held
+add-c-2 c = omega (arith, c .before .before .before .before .before .before .before .before .before .pre .0 .well-formed .cabinets)
+
+mul-k : tie.Need-mul-k Inv-loop μ-loop
+unfolding held
+mul-k c = omega (arith, c .before .before .before .before .before .before .before .before .before .pre .0 .well-formed .cabinets)
+
+element-copy-out-k : tie.Need-element-copy-out-k Inv-loop μ-loop
+unfolding held
+element-copy-out-k c = omega (arith, c .before .before .before .before .before .before .before .before .before .pre .0 .well-formed .cabinets)
+
+loop-less : tie.Need-loop-less Inv-loop μ-loop
+loop-less c = omega (arith, c .before .before .before .loop-test .taken)
+
+loop-again : tie.Need-loop-again Inv-loop μ-loop
+unfolding held
+loop-again c = children-pass (c .before .before .before .before .before .before .before .before .before .before .before .before .pre .0 .well-formed) (c .before .before .before .before .loop .inv) (c .before .before .before .loop-test .taken) (child-not (net (held (c .before .before .before .before .before .before .before .before .before .before .before .before .args .t3))) (c .before .before .before .before .before .before .before .before .before .before .before .before .args .p) (c .before .before .before .before .loop .c) (c .if1 .taken))
+
+join-child-requires : tie.Need-join-child-requires Inv-loop μ-loop
+unfolding held
+join-child-requires c κs =
+    let P = c .before .before .before .before .before .before .before .before .before .before .before .before .before .before .pre in
+    let A = charged (c .before .before .before .before .before .before .before) in
+    let is = child-is (net (held (c .before .before .before .before .before .before .before .before .before .before .before .before .before .before .args .t3))) (c .before .before .before .before .before .before .before .before .before .before .before .before .before .before .args .p) (c .before .before .before .before .before .before .loop .c) (omega (arith, c .before .before .before .before .before .before .loop .inv .after)) (c .before .before .if1 .left) in
+    (held (c .before .before .before .before .before .before .before .before .before .before .before .before .before .before .args .t3), joinable (P .0 .well-formed) (c .before .before .before .before .before .before .loop .inv) (c .before .before .before .before .before .loop-test .taken) is refl (A .ready) (P .1 .0 .flows) (A .above))
+
+-- a child joined
+turn : (c : tie.After-slice-known5 Inv-loop μ-loop)
+    → Children (held (c .before .before .before .before .before .before .before .before .before .before .before .before .before .before .before .before .before .before .before .args .t3)) (c .before .before .before .before .before .before .before .before .before .before .before .before .before .before .before .before .before .before .before .args .p) (c .before .before .before .before .before .before .before .before .before .before .before .loop .c + 1) (put-row (c .before .before .before .before .before .before .before .before .before .before .before .before .before .before .before .before .before .before .before .args .size) (c .before .before .before .before .before .before .before .before .before .before .before .before .before .before .before .before .before .before .before .args .p) (c .before .before .before .before .before .before .before .before .before .before .before .before .before .before .before .before .before .before .before .args .costs .now) (c .before .before .before .before .before .before .before .before .before .before .before .before .before .before .fill-own .last .0)) (c .before .before .before .before .join-child .last .0) (c .before .before .before .before .before .before .before .before .before .before .before .before .before .before .before .before .before .before .before .args .choices .now) (c .before .before .before .before .join-child .last .1 .0) (c .before .before .before .before .before .before .before .before .before .before .before .loop .count + c .before .before .before .before .join-child .result)
+unfolding held
+turn c =
+    let P = c .before .before .before .before .before .before .before .before .before .before .before .before .before .before .before .before .before .before .before .pre in
+    let W = P .0 .well-formed in
+    let A = charged (c .before .before .before .before .before .before .before .before .before .before .before .before) in
+    let C = c .before .before .before .before .before .before .before .before .before .before .before .loop .inv in
+    let h = c .before .before .before .before .before .before .before .before .before .before .loop-test .taken in
+    let J = c .before .before .before .before .join-child in
+    let is = child-is (net (held (c .before .before .before .before .before .before .before .before .before .before .before .before .before .before .before .before .before .before .before .args .t3))) (c .before .before .before .before .before .before .before .before .before .before .before .before .before .before .before .before .before .before .before .args .p) (c .before .before .before .before .before .before .before .before .before .before .before .loop .c) (omega (arith, C .after)) (c .before .before .before .before .before .before .before .if1 .left) in
+    children-join W C h is (J .ensures (held (c .before .before .before .before .before .before .before .before .before .before .before .before .before .before .before .before .before .before .before .args .t3)) (joinable W C h is refl (A .ready) (P .1 .0 .flows) (A .above))) (J .kept .0) (J .kept .1 .0)
+
+add-count : tie.Need-add-count Inv-loop μ-loop
+add-count c =
+    let W = c .before .before .before .before .before .before .before .before .before .before .before .before .before .before .before .before .before .before .before .pre .0 .well-formed in
+    let T = turn c in
+    omega (arith, T .rebuilt .count, joins-le (held (c .before .before .before .before .before .before .before .before .before .before .before .before .before .before .before .before .before .before .before .args .t3)) W (c .before .before .before .before .before .before .before .before .before .before .before .before .before .before .before .before .before .before .before .args .p) (c .before .before .before .before .before .before .before .before .before .before .before .loop .c + 1) (omega (arith, T .within, W .cabinets)))
+
+loop-less-2 : tie.Need-loop-less-2 Inv-loop μ-loop
+loop-less-2 c = omega (arith, c .before .before .before .before .before .before .before .before .before .before .loop-test .taken)
+
+loop-again-2 : tie.Need-loop-again-2 Inv-loop μ-loop
+loop-again-2 c = turn c
+
+same-length : tie.Need-same-length Inv-loop μ-loop
+same-length c = c .before .loop .inv .costs-length ∙ charged (c .before .before) .ready .costs ∙ sym (c .before .before .before .before .before .before .before .before .before .pre .0 .costs)
+
+same-length-2 : tie.Need-same-length-2 Inv-loop μ-loop
+same-length-2 c = c .before .loop .inv .choices-length
+
+returns : tie.Need-returns Inv-loop μ-loop
+unfolding held
 returns c =
-    let a = c .before .before .before .before .before .before .before .before .before .before .before .before .before .before .args in
-    let R = c .before .before .before .before .join-children .ensures in
-    record {
-      costs = row-again (2 ^ held (a .t3) .r) (a .p) _ _ _ _ _ (own-row (c .before .before .before .before .before)) (R .costs);
-      chosen = R .chosen;
-      kept = R .kept;
-      count = R .count;
-    }
+    let I = held (c .before .before .before .before .before .before .before .before .before .args .t3) in
+    let l = c .before .loop in
+    let A = charged (c .before .before) in
+    let e : l .c ≡ I .s = omega (arith, l .inv .within, c .loop-test .left) in
+    let R = subst (λ (k : ℕ). Rebuilt I (c .before .before .before .before .before .before .before .before .before .args .p) k (put-row (c .before .before .before .before .before .before .before .before .before .args .size) (c .before .before .before .before .before .before .before .before .before .args .p) (c .before .before .before .before .before .before .before .before .before .args .costs .now) (c .before .before .before .before .fill-own .last .0)) (l .costs) (c .before .before .before .before .before .before .before .before .before .args .choices .now) (l .choices) (l .count)) e (l .inv .rebuilt) in
+    record { costs = row-again (2 ^ I .r) (c .before .before .before .before .before .before .before .before .before .args .p) _ _ _ _ _ (A .own) (R .costs); chosen = R .chosen; kept = R .kept; count = R .count }
 
 pub rebuild-spec : {M : Type 1} → statement M
 rebuild-spec =
     tie.close
     (tie.spec
-    mul-k
-    element-copy-out-k
+    Inv-loop
+    μ-loop
+    mul-own
+    element-copy-out-own
     mul-at
     add-end
     mul-fill-own
@@ -118,7 +158,17 @@ rebuild-spec =
     part-fill-own-start
     part-fill-own-end
     fill-own-requires
-    join-children-requires
+    add-c
+    loop-holds
+    add-c-2
+    mul-k
+    element-copy-out-k
+    loop-less
+    loop-again
+    join-child-requires
+    add-count
+    loop-less-2
+    loop-again-2
     same-length
     same-length-2
     returns)
