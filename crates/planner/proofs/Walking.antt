@@ -8,7 +8,6 @@ use lib.Bits.{bitAnd, and-le-r}
 use Rattle.subsets.specs.Sets.{has}
 use Rattle.subsets.specs.Tree.{Falls}
 use Rattle.subsets.specs.Net.{Net}
-use Rattle.subsets.specs.Rows.{child}
 use Rattle.subsets.specs.Back.{seat}
 use Rattle.subsets.proofs.Back.{seat-end, seat-pass, seat-stay, seat-leave}
 use Rattle.planner.proofs.Children.{child-is, child-not, none-up-to}
