@@ -37,18 +37,15 @@ module _ (N : Net) (falls : Falls (N .parent)) where
       go true e = absurd (omega (arith, child-above p b e))
       go false e = e
 
-  -- so a row starts as what its node charges
-  row-first : (k p x : ℕ) → k ≤ suc p → row-at N p k x ≡ N .node p x
-  row-first zero p x h = row-alone N falls p x
-  row-first (suc k) p x h = row-pass N falls p k x (none-up-to p k (omega arith)) ∙ row-first k p x (omega arith)
+  -- what stays over nodes that are no children is at the first node after p what it was at 0
+  stays : (k : ℕ) {A : Type 0} (f : ℕ → A) (p : ℕ) → ((b : ℕ) → child N p b ≡ false → f (suc b) ≡ f b) → k ≤ suc p → f k ≡ f 0
+  stays zero f p s h = refl
+  stays (suc k) f p s h = s k (none-up-to p k (omega arith)) ∙ stays k f p s (omega arith)
 
+  -- a row starts as what its node charges
   pub row-start : (p x : ℕ) → row-at N p (suc p) x ≡ N .node p x
-  row-start p x = row-first (suc p) p x (omega arith)
+  row-start p x = stays (suc p) (λ k. row-at N p k x) p (λ k e. row-pass N falls p k x e) (omega arith) ∙ row-alone N falls p x
 
   -- and the count as 0
-  joins-first : (k p : ℕ) → k ≤ suc p → joins N p k ≡ 0
-  joins-first zero p h = joins-none N p
-  joins-first (suc k) p h = joins-pass N p k (none-up-to p k (omega arith)) ∙ joins-first k p (omega arith)
-
   pub joins-start : (p : ℕ) → joins N p (suc p) ≡ 0
-  joins-start p = joins-first (suc p) p (omega arith)
+  joins-start p = stays (suc p) (joins N p) p (λ k e. joins-pass N p k e) (omega arith) ∙ joins-none N p

@@ -1,11 +1,10 @@
 -- One child joined: the lists that the code joins hold the figures of the rows, so that the row and the choices after it are the next.
-use Prim.Native.Nat.{ℕ, suc, _+_, _*_, _^_, _≤_, _<_}
+use Prim.Native.Nat.{ℕ, _+_, _*_, _^_, _≤_, _<_}
 use native.Mathlib.Omega.{arith}
-use mathlib.Core.Path.{_≡_, ap, ap₂, _∙_, subst}
+use mathlib.Core.Path.{_≡_, ap, ap₂, _∙_}
 use mathlib.Core.List.{List}
 use lib.ListN.{length, getD}
-use Rattle.subsets.specs.Figures.{figure}
-use Rattle.subsets.specs.Rows.{row-at, choice-at}
+use Rattle.subsets.specs.Rows.{row-at}
 use Rattle.subsets.specs.Folds.{Holds, counted-below}
 use Rattle.subsets.proofs.Tables.{next-figure, next-choice, next-count}
 use Rattle.sheet.specs.Instance.{Instance}
@@ -14,7 +13,7 @@ use Rattle.embedding.specs.Charge.{link-charge, net}
 use Rattle.planner.specs.Loaded.{cabinet-of}
 use Rattle.planner.specs.Sums.{link-figure}
 use Rattle.planner.specs.Joins.{Joined}
-use Rattle.planner.specs.Tables.{entry, cost-entry, Joinable, JoinedChild, RowSet}
+use Rattle.planner.specs.Tables.{entry, cost-entry, Joinable, JoinedChild}
 use Rattle.planner.proofs.Children.{child-above}
 use Rattle.planner.proofs.Charging.{link-is, flows-small, falls, nodes, links, small}
 use Rattle.planner.proofs.Parted.{Room, room, row-of, put-row, row-length, row-entry, row-put}
@@ -66,12 +65,10 @@ module _ {I : Instance} {k : Cabinet} {p c size : ℕ} {outs ins t u : List ℕ}
         let at = row-length size p t (rooms .0 .row-costs) in
         let holds = row-holds p (rooms .0 .row-costs) _ (J .row) in
         record {
-          costs = subst (λ (z : ℕ). RowSet z p (λ x. figure (row-at (net I) p (suc c) x)) t (put-row size p t row')) e
-              (row-put size p t (rooms .0 .row-costs) row' _ (lr ∙ at) (λ x l. D .costs x (omega arith)
-              ∙ next-figure (net I) (falls I W) 20000000000 (nodes I W) (links I W) (small I W) p c (J .is-child) (J .within) _ kid link holds kid-holds link-holds x (omega arith)));
-          choices = subst (λ (z : ℕ). RowSet z c (choice-at (net I) c) u (put-row size c u choice')) e
-              (row-put size c u (rooms .1 .row-choices) choice' _ (lc ∙ row-length size c u (rooms .1 .row-choices)) (λ x l. D .choices x (omega arith)
-              ∙ next-choice (net I) (falls I W) 20000000000 (nodes I W) (links I W) (small I W) p c (J .is-child) (J .within) _ kid link holds kid-holds link-holds x (omega arith)));
+          costs = row-put size p t (rooms .0 .row-costs) row' lr e _ (λ x l. D .costs x (omega arith)
+              ∙ next-figure (net I) (falls I W) 20000000000 (nodes I W) (links I W) (small I W) p c (J .is-child) (J .within) _ kid link holds kid-holds link-holds x l);
+          choices = row-put size c u (rooms .1 .row-choices) choice' lc e _ (λ x l. D .choices x (omega arith)
+              ∙ next-choice (net I) (falls I W) 20000000000 (nodes I W) (links I W) (small I W) p c (J .is-child) (J .within) _ kid link holds kid-holds link-holds x l);
           count = D .counted ∙ ap (counted-below _ kid link) (at ∙ e)
               ∙ next-count (net I) (falls I W) 20000000000 (nodes I W) (links I W) (small I W) p c (J .is-child) (J .within) _ kid link holds kid-holds link-holds;
         }

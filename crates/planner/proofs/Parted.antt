@@ -3,7 +3,7 @@ use Prim.Native.Nat.{ℕ, _+_, _-_, _*_, _≤_, _<_}
 use native.Mathlib.Nat.{mul-le-mul, mul-le-mul-right}
 use native.Mathlib.Omega.{arith}
 use mathlib.Core.Logic.{⊎-elim, _⊎_, inl, inr}
-use mathlib.Core.Path.{_≡_, refl, sym, ap, _∙_}
+use mathlib.Core.Path.{_≡_, refl, sym, ap, _∙_, subst}
 use mathlib.Core.Bool.{Bool, true, false}
 use mathlib.Core.List.{List, _++_}
 use lib.Dec.{ltb}
@@ -75,20 +75,26 @@ module _ (size p : ℕ) (t : List ℕ) (fits : p * size + size ≤ length t) whe
   row-entry x h =
       getD-take (p * size + size - p * size) (drop (p * size) t) x 0 (omega arith) ∙ getD-drop (p * size) t x 0
 
-  -- the table keeps its length
-  pub put-length : (ys : List ℕ) → length ys ≡ size → length (put-row size p t ys) ≡ length t
-  put-length ys same = same-len-mid (p * size) (p * size + size - p * size) t ys (same ∙ sym row-length)
+  module _ (ys : List ℕ) (same : length ys ≡ length (row-of size p t)) where
+    -- the table keeps its length
+    pub put-length : length (put-row size p t ys) ≡ length t
+    put-length = same-len-mid (p * size) (p * size + size - p * size) t ys same
 
-  -- the table with another row there
-  pub row-put : (ys : List ℕ) (f : ℕ → ℕ) → length ys ≡ size → ((x : ℕ) → x < size → getD ys x 0 ≡ f x)
-      → RowSet size p f t (put-row size p t ys)
-  row-put ys f same g = record {
-    row = λ x h. mid-inside (p * size) (p * size + size - p * size) t ys (omega arith) (omega arith) x (omega arith) ∙ g x h;
-    rest = λ d x n h. ⊎-elim
-        (λ l. mid-before (p * size) (p * size + size - p * size) t ys (omega arith) (omega arith) (d * size + x) (omega (arith, row-before size l)))
-        (λ l. mid-after (p * size) (p * size + size - p * size) t ys (omega arith) (omega arith) (d * size + x)
-        (omega (arith, row-before size (let z : p < d = omega arith in z)))) (lt-or-ge d p);
-  }
+    -- the table with another row there
+    put : (f : ℕ → ℕ) → ((x : ℕ) → x < size → getD ys x 0 ≡ f x) → RowSet size p f t (put-row size p t ys)
+    put f g =
+        let long : length ys ≡ size = same ∙ row-length in
+        record {
+          row = λ x h. mid-inside (p * size) (p * size + size - p * size) t ys (omega arith) (omega arith) x (omega arith) ∙ g x h;
+          rest = λ d x n h. ⊎-elim
+              (λ l. mid-before (p * size) (p * size + size - p * size) t ys (omega arith) (omega arith) (d * size + x) (omega (arith, row-before size l)))
+              (λ l. mid-after (p * size) (p * size + size - p * size) t ys (omega arith) (omega arith) (d * size + x)
+              (omega (arith, row-before size (let z : p < d = omega arith in z)))) (lt-or-ge d p);
+        }
+
+    -- the same, with the row's size under another name
+    pub row-put : {z : ℕ} → size ≡ z → (f : ℕ → ℕ) → ((x : ℕ) → x < z → getD ys x 0 ≡ f x) → RowSet z p f t (put-row size p t ys)
+    row-put e f = subst (λ (z : ℕ). ((x : ℕ) → x < z → getD ys x 0 ≡ f x) → RowSet z p f t (put-row size p t ys)) e (put f)
 
 -- the first row of a table that begins with zeros
 pub zeros-first : (size n : ℕ) (ys zs : List ℕ) (x : ℕ) → ys ≡ replicate n 0 → x < n → entry size (ys ++ zs) 0 x ≡ 0

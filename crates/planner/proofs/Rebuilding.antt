@@ -77,7 +77,9 @@ module _ (I : Instance) (W : WellFormed I) (p : ℕ) where
         go b x l e h true q = subst (λ (z : ℕ). entry (2 ^ I .r) u₂ z x ≡ choice-at (net I) z x) (sym (eqb-true b c q)) (J .choices .row x h)
         go b x l e h false q = let z = eqb-false b c q in J .choices .rest b x z h ∙ R .chosen b x (omega (arith, z)) e h
 
--- ---- the row of p with its own charges alone: it is filled first
+-- ---- the row of p filled with its own charges alone
+
+-- every other row stays, so those after p are filled
 pub record Alone (I : Instance) (p size : ℕ) (t t₀ u : List ℕ) : Type 0 where
   pub ready : Ready I size t₀ u
   pub own : RowSet (2 ^ I .r) p (λ x. figure (cabinet-charge I p x)) t t₀
@@ -88,13 +90,10 @@ pub alone : {I : Instance} {p size : ℕ} {t u demands outs ins : List ℕ} → 
     → Alone I p size t (put-row size p t ys) u
 alone {I} {p} {size} {t} {u} R S l A ys same filled =
     let fits = room I size t u R p l .row-costs in
-    let long = row-length size p t fits in
-    let own : RowSet (2 ^ I .r) p (λ x. figure (cabinet-charge I p x)) t (put-row size p t ys) =
-    subst (λ (z : ℕ). RowSet z p (λ x. figure (cabinet-charge I p x)) t (put-row size p t ys)) (R .row-size)
-    (row-put size p t fits ys _ (same ∙ long)
-    (λ x h. filled x (omega arith) ∙ ap (own-figure (cabinet-of I p)) (S .demand x (omega (arith, R .row-size))) ∙ own-is I p x)) in
+    let own = row-put size p t fits ys same (R .row-size) (λ x. figure (cabinet-charge I p x))
+    (λ x h. filled x (omega (arith, row-length size p t fits, R .row-size)) ∙ ap (own-figure (cabinet-of I p)) (S .demand x h) ∙ own-is I p x) in
     record {
-      ready = record { well-formed = R .well-formed; row-size = R .row-size; costs = put-length size p t fits ys (same ∙ long) ∙ R .costs; choices = R .choices };
+      ready = record { well-formed = R .well-formed; row-size = R .row-size; costs = put-length size p t fits ys same ∙ R .costs; choices = R .choices };
       own = own;
       above = λ d x k m h. own .rest d x (λ e. omega arith) h ∙ A d x k m h;
     }
