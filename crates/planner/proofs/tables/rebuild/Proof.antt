@@ -4,8 +4,8 @@ use native.Mathlib.Omega.{arith}
 use mathlib.Core.Path.{_≡_, refl, sym, _∙_, subst}
 use borrow.Author.Needs.{needs}
 use Rattle.embedding.specs.Charge.{net}
-use Rattle.planner.specs.Loaded.{held}
-use Rattle.planner.specs.Tables.{Rebuilt}
+use Rattle.planner.specs.Loaded.{held, cabinet-of}
+use Rattle.planner.specs.Tables.{Joinable, Rebuilt}
 use Rattle.planner.proofs.Charging.{demand-small}
 use Rattle.planner.proofs.Children.{child-is, child-not}
 use Rattle.planner.proofs.Parted.{Room, room, row-length, put-row}
@@ -93,27 +93,28 @@ loop-again : tie.Need-loop-again Inv-loop μ-loop
 unfolding held
 loop-again c = children-pass (c .before .before .before .before .before .before .before .before .before .before .before .before .pre .0 .well-formed) (c .before .before .before .before .loop .inv) (c .before .before .before .loop-test .taken) (child-not (net (held (c .before .before .before .before .before .before .before .before .before .before .before .before .args .t3))) (c .before .before .before .before .before .before .before .before .before .before .before .before .args .p) (c .before .before .before .before .loop .c) (c .if1 .taken))
 
-join-child-requires : tie.Need-join-child-requires Inv-loop μ-loop
+-- the next child can be joined
+next : (c : tie.After-join-child-arg2 Inv-loop μ-loop)
+    → Joinable (held (c .before .before .before .before .before .before .before .before .before .before .before .before .before .before .args .t3)) (cabinet-of (held (c .before .before .before .before .before .before .before .before .before .before .before .before .before .before .args .t3)) (c .before .before .before .before .before .before .loop .c)) (c .before .before .before .before .before .before .before .before .before .before .before .before .before .before .args .p) (c .before .before .before .before .before .before .loop .c) (c .before .before .before .before .before .before .before .before .before .before .before .before .before .before .args .size) (c .before .before .before .before .before .before .before .before .before .before .before .before .before .before .args .leaving .now) (c .before .before .before .before .before .before .before .before .before .before .before .before .before .before .args .entering .now) (c .before .before .before .before .before .before .loop .costs) (c .before .before .before .before .before .before .loop .choices)
 unfolding held
-join-child-requires c κs =
+next c =
     let P = c .before .before .before .before .before .before .before .before .before .before .before .before .before .before .pre in
     let A = charged (c .before .before .before .before .before .before .before) in
     let is = child-is (net (held (c .before .before .before .before .before .before .before .before .before .before .before .before .before .before .args .t3))) (c .before .before .before .before .before .before .before .before .before .before .before .before .before .before .args .p) (c .before .before .before .before .before .before .loop .c) (omega (arith, c .before .before .before .before .before .before .loop .inv .after)) (c .before .before .if1 .left) in
-    (held (c .before .before .before .before .before .before .before .before .before .before .before .before .before .before .args .t3), joinable (P .0 .well-formed) (c .before .before .before .before .before .before .loop .inv) (c .before .before .before .before .before .loop-test .taken) is refl (A .ready) (P .1 .0 .flows) (A .above))
+    joinable (P .0 .well-formed) (c .before .before .before .before .before .before .loop .inv) (c .before .before .before .before .before .loop-test .taken) is refl (A .ready) (P .1 .0 .flows) (A .above)
 
--- a child joined
+join-child-requires : tie.Need-join-child-requires Inv-loop μ-loop
+unfolding held
+join-child-requires c κs = (held (c .before .before .before .before .before .before .before .before .before .before .before .before .before .before .args .t3), next c)
+
+-- and is joined
 turn : (c : tie.After-slice-known5 Inv-loop μ-loop)
     → Children (held (c .before .before .before .before .before .before .before .before .before .before .before .before .before .before .before .before .before .before .before .args .t3)) (c .before .before .before .before .before .before .before .before .before .before .before .before .before .before .before .before .before .before .before .args .p) (c .before .before .before .before .before .before .before .before .before .before .before .loop .c + 1) (put-row (c .before .before .before .before .before .before .before .before .before .before .before .before .before .before .before .before .before .before .before .args .size) (c .before .before .before .before .before .before .before .before .before .before .before .before .before .before .before .before .before .before .before .args .p) (c .before .before .before .before .before .before .before .before .before .before .before .before .before .before .before .before .before .before .before .args .costs .now) (c .before .before .before .before .before .before .before .before .before .before .before .before .before .before .fill-own .last .0)) (c .before .before .before .before .join-child .last .0) (c .before .before .before .before .before .before .before .before .before .before .before .before .before .before .before .before .before .before .before .args .choices .now) (c .before .before .before .before .join-child .last .1 .0) (c .before .before .before .before .before .before .before .before .before .before .before .loop .count + c .before .before .before .before .join-child .result)
 unfolding held
 turn c =
-    let P = c .before .before .before .before .before .before .before .before .before .before .before .before .before .before .before .before .before .before .before .pre in
-    let W = P .0 .well-formed in
-    let A = charged (c .before .before .before .before .before .before .before .before .before .before .before .before) in
-    let C = c .before .before .before .before .before .before .before .before .before .before .before .loop .inv in
-    let h = c .before .before .before .before .before .before .before .before .before .before .loop-test .taken in
     let J = c .before .before .before .before .join-child in
-    let is = child-is (net (held (c .before .before .before .before .before .before .before .before .before .before .before .before .before .before .before .before .before .before .before .args .t3))) (c .before .before .before .before .before .before .before .before .before .before .before .before .before .before .before .before .before .before .before .args .p) (c .before .before .before .before .before .before .before .before .before .before .before .loop .c) (omega (arith, C .after)) (c .before .before .before .before .before .before .before .if1 .left) in
-    children-join W C h is (J .ensures (held (c .before .before .before .before .before .before .before .before .before .before .before .before .before .before .before .before .before .before .before .args .t3)) (joinable W C h is refl (A .ready) (P .1 .0 .flows) (A .above))) (J .kept .0) (J .kept .1 .0)
+    let N = next (c .before .before .before .before .before) in
+    children-join (c .before .before .before .before .before .before .before .before .before .before .before .before .before .before .before .before .before .before .before .pre .0 .well-formed) (c .before .before .before .before .before .before .before .before .before .before .before .loop .inv) (N .within) (N .is-child) (J .ensures (held (c .before .before .before .before .before .before .before .before .before .before .before .before .before .before .before .before .before .before .before .args .t3)) N) (J .kept .0) (J .kept .1 .0)
 
 add-count : tie.Need-add-count Inv-loop μ-loop
 add-count c =
