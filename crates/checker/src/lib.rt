@@ -27,7 +27,7 @@ pub fn check(bytes: &[u8], plan: &[u16]) -> Checked
     let Reading::Accepted(sheet) = answer else {
         let Reading::Refused(refusal) = answer else {
             // Not reached: a reading is one of the two.
-            return Checked::Refused(Refusal::SheetWriter(0));
+            return Checked::Refused(Refusal::SheetWriter(1));
         };
         return Checked::Refused(refusal);
     };
