@@ -1,4 +1,5 @@
 -- What callers may rely on, and what the proofs of the code share.
+pub mod Given
 pub mod Groups
 pub mod Promises
 mod Sharing

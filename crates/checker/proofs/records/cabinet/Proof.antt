@@ -1,9 +1,7 @@
 -- `cabinet` meets its contract: the reader promises the record.
-use Prim.Native.Nat.{ℕ}
-use native.Mathlib.Omega.{arith}
-use mathlib.Core.Path.{_≡_, sym, _∙_}
+use mathlib.Core.Path.{sym, _∙_}
 use Rattle.sheet.proofs.Promises.{cabinet-given}
-use Rattle.checker.proofs.Given.{same-cabinet}
+use Rattle.sheet.proofs.Given.{same-cabinet, cabinet-there}
 use borrow.Author.Needs.{needs}
 use Rattle.checker.proofs.records.cabinet.Statement.{statement}
 use Rattle.checker.proofs.records.cabinet.Tie as tie
@@ -20,7 +18,7 @@ enum-told c = search needs
 returns : tie.Need-returns
 returns c =
     let a = c .before .before .before .before in
-    absurd (let z : _≡_ {A = ℕ} 0 1 = cc (cabinet-given (a .args .bytes .now) (a .args .sheet) (a .pre .0) (a .args .c) (a .pre .1), c .before .before .cabinet .ensures) in omega arith)
+    absurd (cabinet-there _ (sym (c .enum-told .given .1) ∙ c .before .before .cabinet .ensures ∙ cabinet-given (a .args .bytes .now) (a .args .sheet) (a .pre .0) (a .args .c) (a .pre .1)))
 
 returns-2 : tie.Need-returns-2
 returns-2 c =

@@ -1,10 +1,8 @@
 -- `demand` meets its contract: the reader promises the record.
-use Prim.Native.Nat.{ℕ}
-use native.Mathlib.Omega.{arith}
-use mathlib.Core.Path.{_≡_, sym, ap, _∙_}
+use mathlib.Core.Path.{sym, ap, _∙_}
 use Rattle.sheet.specs.declared.Service.{Service}
 use Rattle.sheet.proofs.Promises.{service-given}
-use Rattle.checker.proofs.Given.{same-service}
+use Rattle.sheet.proofs.Given.{same-service, service-there}
 use borrow.Author.Needs.{needs}
 use Rattle.checker.proofs.records.demand.Statement.{statement}
 use Rattle.checker.proofs.records.demand.Tie as tie
@@ -21,7 +19,7 @@ enum-told c = search needs
 returns : tie.Need-returns
 returns c =
     let a = c .before .before .before .before in
-    absurd (let z : _≡_ {A = ℕ} 0 1 = cc (service-given (a .args .bytes .now) (a .args .sheet) (a .pre .0) (a .args .i) (a .pre .1), c .before .before .service .ensures) in omega arith)
+    absurd (service-there _ (sym (c .enum-told .given .1) ∙ c .before .before .service .ensures ∙ service-given (a .args .bytes .now) (a .args .sheet) (a .pre .0) (a .args .i) (a .pre .1)))
 
 returns-2 : tie.Need-returns-2
 returns-2 c =

@@ -1,9 +1,7 @@
 -- `stream` meets its contract: the reader promises the record.
-use Prim.Native.Nat.{ℕ}
-use native.Mathlib.Omega.{arith}
-use mathlib.Core.Path.{_≡_, sym, _∙_}
+use mathlib.Core.Path.{sym, _∙_}
 use Rattle.sheet.proofs.Promises.{stream-given}
-use Rattle.checker.proofs.Given.{same-stream}
+use Rattle.sheet.proofs.Given.{same-stream, stream-there}
 use borrow.Author.Needs.{needs}
 use Rattle.checker.proofs.records.stream.Statement.{statement}
 use Rattle.checker.proofs.records.stream.Tie as tie
@@ -20,7 +18,7 @@ enum-told c = search needs
 returns : tie.Need-returns
 returns c =
     let a = c .before .before .before .before in
-    absurd (let z : _≡_ {A = ℕ} 0 1 = cc (stream-given (a .args .bytes .now) (a .args .sheet) (a .pre .0) (a .args .j) (a .pre .1), c .before .before .stream .ensures) in omega arith)
+    absurd (stream-there _ (sym (c .enum-told .given .1) ∙ c .before .before .stream .ensures ∙ stream-given (a .args .bytes .now) (a .args .sheet) (a .pre .0) (a .args .j) (a .pre .1)))
 
 returns-2 : tie.Need-returns-2
 returns-2 c =

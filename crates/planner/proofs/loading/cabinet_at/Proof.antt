@@ -1,8 +1,7 @@
 -- `cabinet_at` meets its contract: an accepted sheet gives every record that it has.
-use Prim.Native.Nat.{ℕ, _-_}
-use native.Mathlib.Omega.{arith}
-use mathlib.Core.Path.{_≡_}
+use mathlib.Core.Path.{sym, _∙_}
 use borrow.Author.Needs.{needs}
+use Rattle.sheet.proofs.Given.{same-cabinet, cabinet-there}
 use Rattle.sheet.proofs.Promises.{cabinet-given}
 use Rattle.planner.proofs.loading.cabinet_at.Statement.{statement}
 use Rattle.planner.proofs.loading.cabinet_at.Tie as tie
@@ -21,21 +20,13 @@ empty-cabinet-requires c κs = search needs
 
 returns : tie.Need-returns
 returns c =
-    let a = c .before .before .before .before .before .args in
-    let P = c .before .before .before .before .before .pre in
-    let e = cabinet-given (a .bytes .now) (a .sheet) (P .0) (a .c) (P .1) in
-    let g = c .before .before .before .cabinet .ensures in
-    let t = c .before .enum-told .given in
-    absurd (let z : _≡_ {A = ℕ} 0 1 = cc in omega arith)
+    let a = c .before .before .before .before .before in
+    absurd (cabinet-there _ (sym (c .before .enum-told .given .1) ∙ c .before .before .before .cabinet .ensures ∙ cabinet-given (a .args .bytes .now) (a .args .sheet) (a .pre .0) (a .args .c) (a .pre .1)))
 
 returns-2 : tie.Need-returns-2
 returns-2 c =
-    let a = c .before .before .before .before .before .args in
-    let P = c .before .before .before .before .before .pre in
-    let e = cabinet-given (a .bytes .now) (a .sheet) (P .0) (a .c) (P .1) in
-    let g = c .before .before .before .cabinet .ensures in
-    let t = c .before .«record» .given in
-    cc
+    let a = c .before .before .before .before .before in
+    same-cabinet _ _ (sym (c .before .«record» .given .1) ∙ c .before .before .before .cabinet .ensures ∙ cabinet-given (a .args .bytes .now) (a .args .sheet) (a .pre .0) (a .args .c) (a .pre .1))
 
 pub cabinet-at-spec : {M : Type 1} → statement M
 cabinet-at-spec =

@@ -1,11 +1,8 @@
 -- `service_at` meets its contract: an accepted sheet gives every record that it has.
 use Rattle.sheet.specs.declared.Service.{Service}
-use Rattle.sheet.specs.declared.ServiceRecord.{ServiceRecord}
-use Rattle.sheet.specs.declared.ServiceRecord.the-variants.{Given}
-use Prim.Native.Nat.{ℕ, _-_}
-use native.Mathlib.Omega.{arith}
-use mathlib.Core.Path.{_≡_, ap, _∙_}
+use mathlib.Core.Path.{sym, ap, _∙_}
 use borrow.Author.Needs.{needs}
+use Rattle.sheet.proofs.Given.{same-service, service-there}
 use Rattle.sheet.proofs.Promises.{service-given}
 use Rattle.planner.proofs.loading.service_at.Statement.{statement}
 use Rattle.planner.proofs.loading.service_at.Tie as tie
@@ -19,23 +16,15 @@ enum-known-record c = search needs
 enum-told : tie.Need-enum-told
 enum-told c = search needs
 
-same-demand : (o : ServiceRecord) (k : Service) (n : ℕ) → o ≡ Given k → o ≡ Given (record { demand = n }) → k .demand ≡ n
-same-demand o k n e f = ap (λ (k : Service). k .demand) (let z : k ≡ record { demand = n } = cc in z)
-
 returns : tie.Need-returns
 returns c =
-    let a = c .before .before .before .before .args in
-    let P = c .before .before .before .before .pre in
-    let e = service-given (a .bytes .now) (a .sheet) (P .0) (a .i) (P .1) in
-    let g = c .before .before .service .ensures in
-    let t = c .enum-told .given in
-    absurd (let z : _≡_ {A = ℕ} 0 1 = cc in omega arith)
+    let a = c .before .before .before .before in
+    absurd (service-there _ (sym (c .enum-told .given .1) ∙ c .before .before .service .ensures ∙ service-given (a .args .bytes .now) (a .args .sheet) (a .pre .0) (a .args .i) (a .pre .1)))
 
 returns-2 : tie.Need-returns-2
 returns-2 c =
-    let a = c .before .before .before .before .before .args in
-    let P = c .before .before .before .before .before .pre in
-    same-demand _ _ _ (c .before .«record» .given .1) (c .before .before .before .service .ensures ∙ service-given (a .bytes .now) (a .sheet) (P .0) (a .i) (P .1))
+    let a = c .before .before .before .before .before in
+    ap (λ (k : Service). k .demand) (same-service _ _ (sym (c .before .«record» .given .1) ∙ c .before .before .before .service .ensures ∙ service-given (a .args .bytes .now) (a .args .sheet) (a .pre .0) (a .args .i) (a .pre .1)))
 
 pub service-at-spec : {M : Type 1} → statement M
 service-at-spec =
