@@ -11,21 +11,21 @@ use crate::records::cabinet;
 use crate::records::demand;
 use sheet::Sheet;
 
-pub fn wide(place: u16) -> usize
+pub(crate) fn wide(place: u16) -> usize
     ensures { λ c. ⌜ c ≡ place ⌝ }
 {
     place as usize
 }
 
 // n where the test passes, else 0.
-pub fn counted(test: bool, n: u64) -> u64
+pub(crate) fn counted(test: bool, n: u64) -> u64
     ensures { λ m. ⌜ m ≡ only test n ⌝ }
 {
     if test { n } else { 0 }
 }
 
 // Every cabinet number of the plan is below the number of cabinets.
-pub fn is_in_range(plan: &[u16], cabinets: usize) -> bool
+pub(crate) fn is_in_range(plan: &[u16], cabinets: usize) -> bool
     ensures { λ b. ⌜ b ≡ all-below (length (now (plan .entry))) (λ i. ltb (place (now (plan .entry)) i) cabinets) ⌝ }
 {
     let mut i = 0;
@@ -54,7 +54,7 @@ fn placed_demand(sheet: Sheet, bytes: &[u8], plan: &[u16], c: usize) -> u64
 }
 
 // No cabinet is overfull.
-pub fn are_cabinets_kept(sheet: Sheet, bytes: &[u8], plan: &[u16]) -> bool
+pub(crate) fn are_cabinets_kept(sheet: Sheet, bytes: &[u8], plan: &[u16]) -> bool
     requires { ⌜ Placed (now bytes) sheet (now plan) ⌝ }
     ensures { λ b. ⌜ b ≡ cabinets-keep (instance (now (bytes .entry))) (place (now (plan .entry))) ⌝ }
 {
@@ -71,7 +71,7 @@ pub fn are_cabinets_kept(sheet: Sheet, bytes: &[u8], plan: &[u16]) -> bool
 }
 
 // What the cabinets charge for the services: each one's demand times the price of its cabinet.
-pub fn cabinets_cost(sheet: Sheet, bytes: &[u8], plan: &[u16]) -> u64
+pub(crate) fn cabinets_cost(sheet: Sheet, bytes: &[u8], plan: &[u16]) -> u64
     requires { ⌜ Placed (now bytes) sheet (now plan) ⌝ }
     ensures { λ n. ⌜ n ≡ cabinets-cost (instance (now (bytes .entry))) (place (now (plan .entry))) ⌝ }
 {

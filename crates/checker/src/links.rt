@@ -62,7 +62,7 @@ fn is_overfull(link: Cabinet, up: u64, down: u64) -> bool
 }
 
 // The walk over the links: refusal 16 at the first one that is overfull, else the plan's cost, of which the cabinets' part is given.
-pub fn walk_links(sheet: Sheet, bytes: &[u8], plan: &[u16], at_cabinets: u64) -> Checked
+pub(crate) fn walk_links(sheet: Sheet, bytes: &[u8], plan: &[u16], at_cabinets: u64) -> Checked
     requires { ⌜ Placed (now bytes) sheet (now plan) × («at_cabinets» ≡ cabinets-cost (instance (now bytes)) (place (now plan))) ⌝ }
     ensures { λ r. ⌜ r ≡ walked (instance (now (bytes .entry))) (place (now (plan .entry))) ⌝ }
 {

@@ -10,7 +10,7 @@ use sheet::Sheet;
 use sheet::Stream;
 use sheet::StreamRecord;
 
-pub fn demand(sheet: Sheet, bytes: &[u8], i: usize) -> u64
+pub(crate) fn demand(sheet: Sheet, bytes: &[u8], i: usize) -> u64
     requires { ⌜ Reads (now bytes) sheet × (i < instance (now bytes) .r) ⌝ }
     ensures { λ n. ⌜ n ≡ instance (now (bytes .entry)) .demand i ⌝ }
 {
@@ -21,7 +21,7 @@ pub fn demand(sheet: Sheet, bytes: &[u8], i: usize) -> u64
     service.demand
 }
 
-pub fn cabinet(sheet: Sheet, bytes: &[u8], c: usize) -> Cabinet
+pub(crate) fn cabinet(sheet: Sheet, bytes: &[u8], c: usize) -> Cabinet
     requires { ⌜ Reads (now bytes) sheet × (c < instance (now bytes) .s) ⌝ }
     ensures { λ k. ⌜ k ≡ cabinet-of (instance (now (bytes .entry))) c ⌝ }
 {
@@ -40,7 +40,7 @@ pub fn cabinet(sheet: Sheet, bytes: &[u8], c: usize) -> Cabinet
     cabinet
 }
 
-pub fn stream(sheet: Sheet, bytes: &[u8], j: usize) -> Stream
+pub(crate) fn stream(sheet: Sheet, bytes: &[u8], j: usize) -> Stream
     requires { ⌜ Reads (now bytes) sheet × (j < instance (now bytes) .q) ⌝ }
     ensures { λ t. ⌜ t ≡ stream-of (instance (now (bytes .entry))) j ⌝ }
 {

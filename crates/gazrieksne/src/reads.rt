@@ -12,7 +12,7 @@ use sheet::Sheet;
 use sheet::Stream;
 use sheet::StreamRecord;
 
-pub fn wide(n: u16) -> u64
+pub(crate) fn wide(n: u16) -> u64
     ensures { λ r. ⌜ r ≡ n ⌝ }
 {
     n as u64

@@ -42,7 +42,7 @@ fn walk_down(records: Records, choices: &[u16], size: usize, p: usize, x: usize,
 }
 
 // The plan that places x on p and all cabinets under it, one place a service.
-pub fn read_back(
+pub(crate) fn read_back(
     output: &mut [u16],
     records: Records,
     choices: &[u16],

@@ -66,7 +66,7 @@ fn flow_of<'a>(
 }
 
 // The demand of every set below size.
-pub fn demand_sums(
+pub(crate) fn demand_sums(
     sums: &mut [u64; SETS],
     demand: &[u64; Sheet::MAX_SERVICES],
     r: usize,
@@ -83,7 +83,7 @@ pub fn demand_sums(
 }
 
 // The demand that runs out of every set below size.
-pub fn flow_sums<'a>(
+pub(crate) fn flow_sums<'a>(
     sums: &mut [u64; SETS],
     from: &'a [usize; Sheet::MAX_STREAMS],
     to: &'a [usize; Sheet::MAX_STREAMS],
@@ -127,7 +127,7 @@ fn link_charge(up: u64, down: u64, k: Cabinet) -> u64
 }
 
 // The row of a cabinet alone.
-pub fn fill_own(row: &mut [u64], demands: &[u64; SETS], k: Cabinet)
+pub(crate) fn fill_own(row: &mut [u64], demands: &[u64; SETS], k: Cabinet)
     requires { ⌜ (length (now row) ≤ 1024) × (k .price ≤ 10000) × ((x : ℕ) → x < length (now row) → getD (now demands) x 0 ≤ 100000) ⌝ }
     ensures { λ u. ⌜ ((x : ℕ) → x < length (now (row .entry)) → getD (now (row .exit)) x 0 ≡ own-figure k (getD (now (demands .entry)) x 0)) ⌝ }
 {
@@ -139,7 +139,7 @@ pub fn fill_own(row: &mut [u64], demands: &[u64; SETS], k: Cabinet)
 }
 
 // What the link above a cabinet charges for every set below size.
-pub fn link_row(
+pub(crate) fn link_row(
     link: &mut [u64; SETS],
     leaving: &[u64; SETS],
     entering: &[u64; SETS],

@@ -57,7 +57,12 @@ fn best_split(row: &[u64], child: &[u64; SETS], link: &[u64; SETS], x: usize) ->
 
 // Joins a child's row into the row, from the last set down, so that the row is updated in place: a subset of x is no larger a number.
 // The subsets that stay go into the child's choices. Gives the splits counted.
-pub fn join(row: &mut [u64], choice: &mut [u16], child: &[u64; SETS], link: &[u64; SETS]) -> u64
+pub(crate) fn join(
+    row: &mut [u64],
+    choice: &mut [u16],
+    child: &[u64; SETS],
+    link: &[u64; SETS],
+) -> u64
     requires { ⌜ (length (now row) ≤ 1024) × (length (now choice) ≡ length (now row)) ⌝ }
     ensures { λ r. ⌜ Joined (now (row .entry)) (now (child .entry)) (now (link .entry)) (now (row .exit)) (now (choice .exit)) r ⌝ }
 {

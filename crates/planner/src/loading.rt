@@ -138,7 +138,7 @@ fn with_streams(records: Records, sheet: Sheet, bytes: &[u8]) -> Records
 }
 
 // All records of the sheet.
-pub fn load(sheet: Sheet, bytes: &[u8]) -> Records
+pub(crate) fn load(sheet: Sheet, bytes: &[u8]) -> Records
     requires { ⌜ reading (now bytes) ≡ Accepted sheet ⌝ }
     ensures { λ x. ⌜ held x ≡ instance (now (bytes .entry)) ⌝ }
 {

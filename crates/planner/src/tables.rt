@@ -58,7 +58,7 @@ fn join_child(
 }
 
 // Rebuilds the row of p: its own charges, then its children joined, in rising order. Gives the splits counted.
-pub fn rebuild(
+pub(crate) fn rebuild(
     costs: &mut [u64],
     choices: &mut [u16],
     records: Records,
@@ -117,7 +117,7 @@ fn fill_rows(
 }
 
 // Fills both tables. Gives the splits counted.
-pub fn fill(costs: &mut [u64], choices: &mut [u16], records: Records, size: usize) -> u64
+pub(crate) fn fill(costs: &mut [u64], choices: &mut [u16], records: Records, size: usize) -> u64
     requires { ⌜ Ready (held records) size (now costs) (now choices) ⌝ }
     ensures { λ n. ⌜ Filled (held records) (now (costs .exit)) (now (choices .exit)) n ⌝ }
 {
@@ -145,7 +145,7 @@ pub fn fill(costs: &mut [u64], choices: &mut [u16], records: Records, size: usiz
     fill_rows(costs, choices, records, &demands, &leaving, &entering, size)
 }
 
-pub fn clear_costs(costs: &mut [u64])
+pub(crate) fn clear_costs(costs: &mut [u64])
     ensures { λ u. ⌜ now (costs .exit) ≡ replicate (length (now (costs .entry))) 0 ⌝ }
 {
     let mut i = 0;
@@ -155,7 +155,7 @@ pub fn clear_costs(costs: &mut [u64])
     }
 }
 
-pub fn clear_choices(choices: &mut [u16])
+pub(crate) fn clear_choices(choices: &mut [u16])
     ensures { λ u. ⌜ now (choices .exit) ≡ replicate (length (now (choices .entry))) 0 ⌝ }
 {
     let mut i = 0;

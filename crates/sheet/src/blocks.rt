@@ -23,7 +23,7 @@ fn do_share(a: usize, m: usize, b: usize, n: usize) -> bool
     m != 0 && a - b < n
 }
 
-pub fn any_outside(sheet: Sheet, len: usize) -> bool
+pub(crate) fn any_outside(sheet: Sheet, len: usize) -> bool
     requires { ⌜ Bounded sheet ⌝ }
     ensures { λ r. ⌜ r ≡ some-block-outside sheet len ⌝ }
 {
@@ -33,7 +33,7 @@ pub fn any_outside(sheet: Sheet, len: usize) -> bool
     x || y || z
 }
 
-pub fn any_share(sheet: Sheet) -> bool
+pub(crate) fn any_share(sheet: Sheet) -> bool
     requires { ⌜ Bounded sheet ⌝ }
     ensures { λ r. ⌜ r ≡ some-blocks-share sheet ⌝ }
 {

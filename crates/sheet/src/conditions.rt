@@ -118,7 +118,7 @@ fn any_ends_wrong(block: &[u8], services: usize, count: usize) -> bool
 }
 
 // Refusal 2.
-pub fn is_beyond_limits(bytes: &[u8], sheet: Sheet) -> bool
+pub(crate) fn is_beyond_limits(bytes: &[u8], sheet: Sheet) -> bool
     requires { ⌜ 16 ≤ length (now bytes) ⌝ }
     ensures { λ r. ⌜ r ≡ beyond-limits sheet (now (bytes .entry)) ⌝ }
 {
@@ -131,7 +131,7 @@ pub fn is_beyond_limits(bytes: &[u8], sheet: Sheet) -> bool
 }
 
 // Refusal 6. Each block is handed on as the part of the sheet that starts at its offset.
-pub fn is_amount_too_high(bytes: &[u8], sheet: Sheet) -> bool
+pub(crate) fn is_amount_too_high(bytes: &[u8], sheet: Sheet) -> bool
     requires { ⌜ Inside sheet (length (now bytes)) ⌝ }
     ensures { λ r. ⌜ r ≡ some-amount-too-high sheet (now (bytes .entry)) ⌝ }
 {
@@ -145,7 +145,7 @@ pub fn is_amount_too_high(bytes: &[u8], sheet: Sheet) -> bool
 }
 
 // Refusal 7.
-pub fn is_parent_wrong(bytes: &[u8], sheet: Sheet) -> bool
+pub(crate) fn is_parent_wrong(bytes: &[u8], sheet: Sheet) -> bool
     requires { ⌜ Inside sheet (length (now bytes)) ⌝ }
     ensures { λ r. ⌜ r ≡ some-parent-wrong sheet (now (bytes .entry)) ⌝ }
 {
@@ -154,7 +154,7 @@ pub fn is_parent_wrong(bytes: &[u8], sheet: Sheet) -> bool
 }
 
 // Refusal 8.
-pub fn is_end_wrong(bytes: &[u8], sheet: Sheet) -> bool
+pub(crate) fn is_end_wrong(bytes: &[u8], sheet: Sheet) -> bool
     requires { ⌜ Inside sheet (length (now bytes)) ⌝ }
     ensures { λ r. ⌜ r ≡ some-ends-wrong sheet (now (bytes .entry)) ⌝ }
 {
@@ -163,7 +163,7 @@ pub fn is_end_wrong(bytes: &[u8], sheet: Sheet) -> bool
 }
 
 // Refusal 9.
-pub fn is_root_linked(bytes: &[u8], sheet: Sheet) -> bool
+pub(crate) fn is_root_linked(bytes: &[u8], sheet: Sheet) -> bool
     requires { ⌜ Inside sheet (length (now bytes)) ⌝ }
     ensures { λ r. ⌜ r ≡ root-linked sheet (now (bytes .entry)) ⌝ }
 {

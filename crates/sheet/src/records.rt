@@ -16,7 +16,7 @@ fn wide(byte: u8) -> u64
 }
 
 // The 16-bit word that starts at a byte.
-pub fn word(part: &[u8], at: usize) -> u64
+pub(crate) fn word(part: &[u8], at: usize) -> u64
     requires { ⌜ at + 1 < length (now part) ⌝ }
     ensures { λ r. ⌜ (r ≡ word-at (now (part .entry)) at) × (r < 65536) ⌝ }
 {
@@ -26,7 +26,7 @@ pub fn word(part: &[u8], at: usize) -> u64
 }
 
 // The counts and the offsets.
-pub fn read_header(bytes: &[u8]) -> Sheet
+pub(crate) fn read_header(bytes: &[u8]) -> Sheet
     requires { ⌜ 16 ≤ length (now bytes) ⌝ }
     ensures { λ r. ⌜ (r ≡ header (now (bytes .entry))) × (r .«services_at» < 65536) × (r .«cabinets_at» < 65536) × (r .«streams_at» < 65536) ⌝ }
 {
@@ -40,7 +40,7 @@ pub fn read_header(bytes: &[u8]) -> Sheet
     }
 }
 
-pub fn read_service(block: &[u8], i: usize) -> Service
+pub(crate) fn read_service(block: &[u8], i: usize) -> Service
     requires { ⌜ 2 * i + 2 ≤ length (now block) ⌝ }
     ensures { λ r. ⌜ r ≡ service-in (now (block .entry)) i ⌝ }
 {
@@ -49,7 +49,7 @@ pub fn read_service(block: &[u8], i: usize) -> Service
     }
 }
 
-pub fn read_cabinet(block: &[u8], c: usize) -> Cabinet
+pub(crate) fn read_cabinet(block: &[u8], c: usize) -> Cabinet
     requires { ⌜ 14 * c + 14 ≤ length (now block) ⌝ }
     ensures { λ r. ⌜ r ≡ cabinet-in (now (block .entry)) c ⌝ }
 {
@@ -65,7 +65,7 @@ pub fn read_cabinet(block: &[u8], c: usize) -> Cabinet
     }
 }
 
-pub fn read_stream(block: &[u8], j: usize) -> Stream
+pub(crate) fn read_stream(block: &[u8], j: usize) -> Stream
     requires { ⌜ 6 * j + 6 ≤ length (now block) ⌝ }
     ensures { λ r. ⌜ r ≡ stream-in (now (block .entry)) j ⌝ }
 {
@@ -78,7 +78,7 @@ pub fn read_stream(block: &[u8], j: usize) -> Stream
 }
 
 // Record i of so many of a size is there: its number is in the block, and it ends within the bytes.
-pub fn is_there(count: usize, size: usize, at: usize, len: usize, i: usize) -> bool
+pub(crate) fn is_there(count: usize, size: usize, at: usize, len: usize, i: usize) -> bool
     requires { ⌜ 0 < size ⌝ }
     ensures { λ r. ⌜ r ≡ there count size at len i ⌝ }
 {
