@@ -1,6 +1,6 @@
 -- Laws of the check's answers.
-use Prim.Native.Nat.{ℕ, zero, suc, _^_, _<_}
-use mathlib.Core.Logic.{_↔_}
+use Prim.Native.Nat.{ℕ, zero, suc, _^_, _≤_, _<_}
+use mathlib.Core.Logic.{_↔_, _⊎_, inl, inr}
 use mathlib.Core.Path.{_≡_, refl, sym, ap, _∙_}
 use mathlib.Core.Bool.{Bool, true, false, _&&_, not, cond}
 use mathlib.Core.List.{List}
@@ -9,23 +9,24 @@ use lib.Dec.{eqb}
 use lib.ListN.{length}
 use borrow.Author.Tests.{eqb-true, eq-eqb}
 use Rattle.finite.proofs.Booleans.{clash, both-l}
-use Rattle.sheet.specs.Refusals.{lowest, refusal, number-of}
+use Rattle.sheet.specs.Refusals.{first-applying, refusal, number-of, group-of, giving, in-order}
+use Rattle.sheet.specs.Reading as reader
 use Rattle.sheet.specs.Reading.{reading}
-use Rattle.sheet.specs.Instance.{instance}
+use Rattle.sheet.specs.Instance.{Instance, instance}
 use Rattle.sheet.specs.declared.Sheet.{Sheet}
 use Rattle.sheet.specs.declared.Refusal.{Refusal}
 use Rattle.sheet.specs.declared.Reading.{Reading}
 use Rattle.sheet.specs.declared.Reading.the-variants as readings
 use Rattle.sheet.proofs.Promises.{well-formed}
-use Rattle.sheet.proofs.Groups.{own-group, reading-group}
+use Rattle.sheet.proofs.Groups.{number-refusal, own-group, reading-group, first-between, reading-number}
+use Rattle.sheet.proofs.Order.{after-reader}
 use Rattle.embedding.specs.Plan.{in-range, cabinets-keep, links-keep, valid, plan-cost}
 use Rattle.embedding.proofs.Theorems.{cost-bound}
-use Rattle.checker.specs.Check.{place, rules, answered, plan-checked, checked-after, checked}
-use Rattle.sheet.specs.Refusals.{group-of}
+use Rattle.checker.specs.Check.{place, rules, all-rules, answered, plan-checked, checked-after, checked}
 use Rattle.checker.specs.Answers.{number, group, cost}
 use Rattle.checker.specs.declared.Checked.{Checked}
 use Rattle.checker.specs.declared.Checked.the-variants.{Accepted, Refused}
-use Rattle.checker.proofs.Deciding.{on-plan}
+use Rattle.checker.proofs.Deciding.{handed-on, on-plan}
 
 -- ---- numbers and groups
 
@@ -46,6 +47,49 @@ right-group bytes plan f e = go (reading bytes) refl e
         handed : (g : Refusal) → g ≡ refusal (number-of g) → g ≡ f → f ≡ refusal (number-of f)
         handed g p q = rw (sym q) p
 
+-- the numbers of a plan's refusals are 13 to 16
+plan-number : (I : Instance) (plan : List ℕ) (f : Refusal) → plan-checked I plan ≡ Refused f → (13 ≤ number-of f) × (number-of f ≤ 16)
+unfolding plan-checked rules answered
+plan-number I plan f e = go (first-applying (rules I plan)) refl e
+  where
+    go : (m : ℕ) → first-applying (rules I plan) ≡ m → answered m (plan-cost I (place plan)) ≡ Refused f → (13 ≤ number-of f) × (number-of f ≤ 16)
+    go zero q e = absurd (let z : _≡_ {A = ℕ} 0 1 = cc in omega arith)
+    go (suc n) q e =
+        let b = first-between 13 16 (rules I plan) refl n q in
+        let k : number-of f ≡ suc n = ap number-of (let z : f ≡ refusal (suc n) = cc in z) ∙ number-refusal (suc n) in
+        (omega (arith, b .0), omega (arith, b .1))
+
+-- the check's numbers are the reader's, 1 to 9, and 13 to 16
+pub check-number : (bytes plan : List ℕ) (f : Refusal) → checked bytes plan ≡ Refused f
+    → ((1 ≤ number-of f) × (number-of f ≤ 9)) ⊎ ((13 ≤ number-of f) × (number-of f ≤ 16))
+unfolding checked checked-after
+check-number bytes plan f e = go (reading bytes) refl e
+  where
+    go : (r : Reading) → reading bytes ≡ r → checked-after r (instance bytes) plan ≡ Refused f
+        → ((1 ≤ number-of f) × (number-of f ≤ 9)) ⊎ ((13 ≤ number-of f) × (number-of f ≤ 16))
+    go (readings.Accepted h) q e = inr (plan-number (instance bytes) plan f e)
+    go (readings.Refused g) q e = inl (reading-number bytes f (q ∙ ap readings.Refused (let z : g ≡ f = cc in z)))
+
+-- ---- the order of giving
+
+own-number : (n cost : ℕ) → number (answered n cost) ≡ n
+unfolding answered
+own-number zero cost = refl
+own-number (suc n) cost = number-refusal (suc n)
+
+-- the number of an answer is that of the first rule that applies
+pub check-first : (bytes plan : List ℕ) → number (checked bytes plan) ≡ first-applying (all-rules bytes plan)
+unfolding plan-checked
+check-first bytes plan =
+    after-reader bytes (rules (instance bytes) plan) (number (checked bytes plan))
+    (λ h e. ap number (on-plan bytes plan h e) ∙ own-number (first-applying (rules (instance bytes) plan)) (plan-cost (instance bytes) (place plan)))
+    (λ f e. sym (ap number (handed-on bytes plan f e)))
+
+-- the check's rules stand in the order of giving
+pub check-order : (bytes plan : List ℕ) → in-order giving (all-rules bytes plan) ≡ true
+unfolding reader.rules rules in-order
+check-order bytes plan = refl
+
 -- ---- accepted
 
 -- the four tests and the cost
@@ -64,7 +108,7 @@ all-passed false b c d cost k = (λ e. absurd (let z : _≡_ {A = ℕ} 0 1 = cc 
 pub accepted-iff : (bytes : List ℕ) (h : Sheet) → reading bytes ≡ readings.Accepted h → (plan : List ℕ) (k : ℕ) →
     (checked bytes plan ≡ Accepted k)
     ↔ ((length plan ≡ instance bytes .r) × (valid (instance bytes) (place plan) ≡ true) × (plan-cost (instance bytes) (place plan) ≡ k))
-unfolding plan-checked rules lowest valid
+unfolding plan-checked rules first-applying valid
 accepted-iff bytes h reads plan k =
     let I = instance bytes in
     let t = all-passed (eqb (length plan) (I .r)) (in-range I (place plan)) (cabinets-keep I (place plan)) (links-keep I (place plan)) (plan-cost I (place plan)) k in

@@ -7,7 +7,7 @@ use lib.Dec.{ltb}
 use lib.ListN.{length}
 use borrow.Author.Tests.{eq-eqb, ne-eqb}
 use Rattle.finite.specs.Below.{all-below}
-use Rattle.sheet.specs.Refusals.{lowest, refusal}
+use Rattle.sheet.specs.Refusals.{first-applying, refusal}
 use Rattle.sheet.specs.Reading.{reading}
 use Rattle.sheet.specs.Instance.{Instance, instance}
 use Rattle.sheet.specs.declared.Sheet.{Sheet}
@@ -17,8 +17,8 @@ use Rattle.sheet.specs.declared.Reading.{Reading}
 use Rattle.sheet.specs.declared.Reading.the-variants as readings
 use Rattle.embedding.specs.Plan.{in-range, cabinets-keep, links-keep, plan-cost}
 use Rattle.checker.specs.Check.{place, rules, answered, plan-checked, checked-after, checked}
-use Rattle.checker.specs.Records.{Reads}
-use Rattle.checker.specs.Walk.{walked}
+use Rattle.checker.specs.Inner.Records.{Reads}
+use Rattle.checker.specs.Inner.Walk.{walked}
 use Rattle.checker.specs.declared.Checked.the-variants.{Accepted, Refused}
 
 -- the test of the plan's cabinet numbers, by the counts that the code has
@@ -46,21 +46,21 @@ module _ (bytes plan : List ℕ) where
     on-plan = ap (λ (r : Reading). checked-after r (instance bytes) plan) reads
 
     pub wrong-length : (length plan ≡ instance bytes .r → ⊥) → Refused (PlanWriter 13) ≡ checked bytes plan
-    unfolding plan-checked rules lowest answered refusal
+    unfolding plan-checked rules first-applying answered refusal
     wrong-length e = sym (on-plan ∙ simp (ne-eqb (length plan) (instance bytes .r) e))
 
     module _ (places : length plan ≡ instance bytes .r) where
       pub out-of-range : in-range (instance bytes) (place plan) ≡ false → Refused (PlanWriter 14) ≡ checked bytes plan
-      unfolding plan-checked rules lowest answered refusal
+      unfolding plan-checked rules first-applying answered refusal
       out-of-range e = sym (on-plan ∙ simp (eq-eqb (length plan) (instance bytes .r) places, e))
 
       module _ (range : in-range (instance bytes) (place plan) ≡ true) where
         pub cabinet-overfull : cabinets-keep (instance bytes) (place plan) ≡ false → Refused (PlanWriter 15) ≡ checked bytes plan
-        unfolding plan-checked rules lowest answered refusal
+        unfolding plan-checked rules first-applying answered refusal
         cabinet-overfull e = sym (on-plan ∙ simp (eq-eqb (length plan) (instance bytes .r) places, range, e))
 
         -- the walk decides what is left
         pub by-walk : cabinets-keep (instance bytes) (place plan) ≡ true → walked (instance bytes) (place plan) ≡ checked bytes plan
-        unfolding plan-checked rules lowest walked
+        unfolding plan-checked rules first-applying walked
         by-walk e =
             sym (on-plan ∙ simp (eq-eqb (length plan) (instance bytes .r) places, range, e) (last (links-keep (instance bytes) (place plan)) (plan-cost (instance bytes) (place plan))))

@@ -8,7 +8,8 @@ use lib.Dec.{eqb}
 use lib.ListN.{length, getD, set, replicate, length-replicate, getD-replicate}
 use lib.Seq.{getD-set-same, getD-set-other}
 use borrow.Author.Tests.{eqb-true, eqb-false, ne-eqb}
-use Rattle.subsets.specs.Tree.{Falls, under}
+use Rattle.subsets.specs.Inner.Net.{Falls}
+use Rattle.subsets.specs.Tree.{under}
 use Rattle.subsets.proofs.Tree.{under-refl, under-small, under-step}
 
 module _ (parent : ℕ → ℕ) (falls : Falls parent) (c : ℕ) where

@@ -22,12 +22,12 @@ use Rattle.sheet.specs.declared.Cabinet.{Cabinet}
 use Rattle.sheet.specs.declared.Stream.{Stream}
 use Rattle.embedding.specs.Road.{up, down}
 use Rattle.embedding.specs.Plan.{weight, link-fits, link-keeps, in-range, links-keep, cabinets-cost, links-cost, plan-cost}
-use Rattle.embedding.specs.Charge.{leaving, entering}
+use Rattle.embedding.specs.Inner.Charge.{leaving, entering}
 use Rattle.embedding.proofs.Bound.{leaving-le, entering-le}
 use Rattle.embedding.proofs.Theorems.{load-by-cut, cost-by-links, cost-bound}
 use Rattle.checker.specs.Check.{place}
-use Rattle.checker.specs.Records.{cabinet-of, stream-of, Marked}
-use Rattle.checker.specs.Walk.{walked}
+use Rattle.checker.specs.Inner.Records.{cabinet-of, stream-of, Marked}
+use Rattle.checker.specs.Inner.Walk.{walked}
 use Rattle.checker.specs.declared.Checked.the-variants.{Accepted, Refused}
 use Rattle.checker.proofs.Range.{placed-at}
 

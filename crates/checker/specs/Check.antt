@@ -1,10 +1,11 @@
 -- What the check answers for any bytes and any plan: 01, "A valid plan and its cost" and refusals 13 to 16.
 use Prim.Native.Nat.{ℕ, zero, suc}
 use mathlib.Core.Bool.{not}
-use mathlib.Core.List.{List, [], _∷_}
+use mathlib.Core.List.{List, [], _∷_, _++_}
 use lib.ListN.{length, getD}
 use lib.Dec.{eqb}
-use Rattle.sheet.specs.Refusals.{Rule, lowest, refusal}
+use Rattle.sheet.specs.Refusals.{Rule, first-applying, refusal}
+use Rattle.sheet.specs.Reading as reader
 use Rattle.sheet.specs.Reading.{reading}
 use Rattle.sheet.specs.Instance.{Instance, instance}
 use Rattle.sheet.specs.declared.Reading.{Reading}
@@ -26,6 +27,10 @@ rules I plan =
     ∷ record { number = 16; applies = not (links-keep I (place plan)) }
     ∷ []
 
+-- all refusals that the check can give, in the order in which they are tried
+abbrev pub all-rules : List ℕ → List ℕ → List Rule
+all-rules bytes plan = reader.rules bytes ++ rules (instance bytes) plan
+
 -- the cost where no refusal applies, which 0 stands for, else that refusal
 unfoldable pub answered : ℕ → ℕ → Checked
 answered zero cost = Accepted cost
@@ -33,7 +38,7 @@ answered (suc n) cost = Refused (refusal (suc n))
 
 -- the answer for a plan on a sheet that the reader accepts
 unfoldable pub plan-checked : Instance → List ℕ → Checked
-plan-checked I plan = answered (lowest (rules I plan)) (plan-cost I (place plan))
+plan-checked I plan = answered (first-applying (rules I plan)) (plan-cost I (place plan))
 
 -- a refusal of the reader is handed on
 unfoldable pub checked-after : Reading → Instance → List ℕ → Checked

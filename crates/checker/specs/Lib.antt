@@ -1,5 +1,4 @@
--- What the check answers: Check and Answers. Records and Walk are what the contracts of its private functions cite.
+-- What the check answers. Inner need not be read.
 pub mod Check
 pub mod Answers
-pub mod Records
-pub mod Walk
+pub mod Inner

@@ -6,7 +6,7 @@ ghost use Rattle.finite.specs.Below.{only, sum-below, all-below};
 ghost use Rattle.sheet.specs.Instance.{instance};
 ghost use Rattle.embedding.specs.Plan.{cabinets-keep, cabinets-cost};
 ghost use Rattle.checker.specs.Check.{place};
-ghost use Rattle.checker.specs.Records.{Placed};
+ghost use Rattle.checker.specs.Inner.Records.{Placed};
 use crate::records::cabinet;
 use crate::records::demand;
 use sheet::Sheet;

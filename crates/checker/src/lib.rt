@@ -19,7 +19,7 @@ pub enum Checked {
     Refused(Refusal),
 }
 
-// Checks a plan, one cabinet number a service: accepted exactly when no refusal applies, else refused with the lowest.
+// Checks a plan, one cabinet number a service: accepted exactly when no refusal applies, else refused with the first that applies.
 pub fn check(bytes: &[u8], plan: &[u16]) -> Checked
     ensures { λ r. ⌜ r ≡ checked (now (bytes .entry)) (now (plan .entry)) ⌝ }
 {

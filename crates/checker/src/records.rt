@@ -2,7 +2,7 @@
 ghost use mathlib.Core.Path.{_≡_};
 ghost use Prim.Native.Nat.{_<_};
 ghost use Rattle.sheet.specs.Instance.{instance};
-ghost use Rattle.checker.specs.Records.{Reads, cabinet-of, stream-of};
+ghost use Rattle.checker.specs.Inner.Records.{Reads, cabinet-of, stream-of};
 use sheet::Cabinet;
 use sheet::CabinetRecord;
 use sheet::ServiceRecord;

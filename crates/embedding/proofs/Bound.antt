@@ -10,12 +10,12 @@ use Rattle.finite.proofs.Sums.{sum-le, only-le}
 use Rattle.subsets.specs.Sets.{has}
 use Rattle.subsets.specs.Tree.{under}
 use Rattle.subsets.specs.Costs.{some}
-use Rattle.subsets.specs.Net.{charge}
+use Rattle.subsets.specs.Inner.Net.{charge}
 use Rattle.subsets.proofs.Provided.{provided-some}
 use Rattle.subsets.proofs.Bound as bounds
 use Rattle.sheet.specs.Instance.{Instance, WellFormed}
 use Rattle.embedding.specs.Plan.{fee, in-range, cabinets-cost, plan-cost}
-use Rattle.embedding.specs.Charge.{leaving, entering, cabinet-charge, link-charge, net}
+use Rattle.embedding.specs.Inner.Charge.{leaving, entering, cabinet-charge, link-charge, net}
 use Rattle.embedding.proofs.Mappings.{range-test}
 use Rattle.embedding.proofs.Loads.{toll, links-cost-by-links}
 

@@ -7,18 +7,20 @@ use mathlib.Core.Path.{_≡_, refl, sym}
 use lib.ListN.{length, getD}
 use Rattle.finite.specs.Below.{_⇒_, only, sum-below, all-below, any-below, sum-over}
 use Rattle.finite.proofs.Booleans.{clash}
-use Rattle.subsets.specs.Sets.{has, keep, subset}
+use Rattle.subsets.specs.Sets.{has, subset}
+use Rattle.subsets.specs.Inner.Masks.{keep}
 use Rattle.subsets.specs.Tree.{climb, under, part}
-use Rattle.subsets.specs.Costs.{Cost, none, some, _⊕_, lesser, least-below, total-below, charged, provided}
-use Rattle.subsets.specs.Net as nets
-use Rattle.subsets.specs.Net.{charge}
+use Rattle.subsets.specs.Costs.{Cost, none, some, lesser, least-below, provided}
+use Rattle.subsets.specs.Inner.Totals.{_⊕_, total-below, charged}
+use Rattle.subsets.specs.Inner.Net as nets
+use Rattle.subsets.specs.Inner.Net.{charge}
 use Rattle.sheet.specs.Instance.{Instance, Amounts, WellFormed}
 use Rattle.embedding.specs.Definition1.{member, Feasible, cost}
 use Rattle.embedding.specs.Limits.{Limits}
 use Rattle.embedding.specs.Road.{up, down, lower, by-way, edge-price, road}
 use Rattle.embedding.specs.Plan.{path-within, path, routes, fits, link-fits, fee, weight, carried, link-keeps, in-range, cabinets-keep, links-keep, valid, cabinets-cost, links-cost, plan-cost, digit, worth, cheapest}
 use Rattle.embedding.specs.Splits.{stands, keeps, placeable, weighed}
-use Rattle.embedding.specs.Charge.{leaving, entering, cabinet-charge, link-charge, net}
+use Rattle.embedding.specs.Inner.Charge.{leaving, entering, cabinet-charge, link-charge, net}
 use Rattle.embedding.proofs.Mappings.{plan-iff-mapping}
 
 -- field k of record n

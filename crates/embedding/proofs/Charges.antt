@@ -10,16 +10,18 @@ use Rattle.finite.specs.Below.{_⇒_, only, sum-below, all-below}
 use Rattle.finite.proofs.Booleans.{both, both-l, both-r, implies}
 use Rattle.finite.proofs.Sums.{sum-ext, sum-one, sum-swap}
 use Rattle.finite.proofs.Tests.{all-in, all-ext}
-use Rattle.subsets.specs.Sets.{has, full}
+use Rattle.subsets.specs.Sets.{has}
+use Rattle.subsets.specs.Inner.Masks.{full}
 use Rattle.subsets.specs.Tree.{under}
-use Rattle.subsets.specs.Costs.{some, _⊕_, charged, provided}
-use Rattle.subsets.specs.Net as nets
-use Rattle.subsets.specs.Net.{on, below, charge, Sits}
+use Rattle.subsets.specs.Costs.{some, provided}
+use Rattle.subsets.specs.Inner.Totals.{_⊕_, charged}
+use Rattle.subsets.specs.Inner.Net as nets
+use Rattle.subsets.specs.Inner.Net.{on, below, charge, Sits}
 use Rattle.subsets.proofs.Tree.{under-small}
 use Rattle.sheet.specs.Instance.{Instance, WellFormed}
 use Rattle.embedding.specs.Plan.{fits, link-fits, fee, weight, link-keeps, in-range, cabinets-keep, links-keep, valid, cabinets-cost, plan-cost, worth}
 use Rattle.embedding.specs.Splits.{stands, keeps}
-use Rattle.embedding.specs.Charge.{cabinet-charge, link-charge, net}
+use Rattle.embedding.specs.Inner.Charge.{cabinet-charge, link-charge, net}
 use Rattle.subsets.proofs.Sets.{has-keep, has-full}
 use Rattle.subsets.proofs.Provided.{provided-add, charged-provided, total-provided, provided-some}
 use Rattle.embedding.proofs.Mappings.{InRange}

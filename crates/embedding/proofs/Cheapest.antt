@@ -4,9 +4,10 @@ use native.Mathlib.Omega.{arith}
 use mathlib.Core.Logic.{_↔_}
 use mathlib.Core.Path.{_≡_, refl, sym, _∙_, subst}
 use mathlib.Core.List.{List}
-use Rattle.subsets.specs.Sets.{full}
-use Rattle.subsets.specs.Costs.{Cost, none, some, Le}
-use Rattle.subsets.specs.Net.{Least}
+use Rattle.subsets.specs.Inner.Masks.{full}
+use Rattle.subsets.specs.Costs.{Cost, none, some}
+use Rattle.subsets.specs.Inner.Totals.{Le}
+use Rattle.subsets.specs.Inner.Net.{Least}
 use Rattle.subsets.proofs.Sets.{has-full}
 use Rattle.subsets.proofs.Costs.{Le-antisym, least-low, least-high, least-met}
 use Rattle.subsets.proofs.Provided.{provided-some}
@@ -15,7 +16,7 @@ use Rattle.embedding.specs.Definition1.{Feasible, cost}
 use Rattle.embedding.specs.Limits.{Limits}
 use Rattle.embedding.specs.Road.{road}
 use Rattle.embedding.specs.Plan.{valid, plan-cost, digit, worth, cheapest}
-use Rattle.embedding.specs.Charge.{net}
+use Rattle.embedding.specs.Inner.Charge.{net}
 use Rattle.embedding.proofs.Digits.{digit-lt, number}
 use Rattle.embedding.proofs.Mappings.{InRange, plan-iff-mapping}
 use Rattle.embedding.proofs.Services.{worth-ext}

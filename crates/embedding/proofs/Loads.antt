@@ -14,7 +14,7 @@ use Rattle.sheet.specs.Instance.{Instance, WellFormed}
 use Rattle.embedding.specs.Definition1.{Graph, Walk}
 use Rattle.embedding.specs.Road.{up, down, edge-price, tree}
 use Rattle.embedding.specs.Plan.{routes, link-fits, weight, carried, link-keeps, links-cost}
-use Rattle.embedding.specs.Charge.{leaving, entering}
+use Rattle.embedding.specs.Inner.Charge.{leaving, entering}
 use Rattle.embedding.proofs.Edges.{price-up, price-down}
 use Rattle.embedding.proofs.Mappings.{InRange, route-simple}
 use Rattle.embedding.proofs.Cut.{times, member-times, leaves, cut}

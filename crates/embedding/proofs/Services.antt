@@ -12,7 +12,7 @@ use Rattle.sheet.specs.Instance.{Instance, WellFormed}
 use Rattle.embedding.specs.Definition1.{member}
 use Rattle.embedding.specs.Road.{up, down, edge-price}
 use Rattle.embedding.specs.Plan.{path, routes, fits, link-fits, fee, weight, carried, link-keeps, in-range, cabinets-keep, links-keep, valid, cabinets-cost, links-cost, plan-cost, worth}
-use Rattle.embedding.specs.Charge.{leaving, entering}
+use Rattle.embedding.specs.Inner.Charge.{leaving, entering}
 use Rattle.embedding.proofs.Loads.{toll}
 
 module _ (I : Instance) (W : WellFormed I) where

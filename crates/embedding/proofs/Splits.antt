@@ -12,13 +12,14 @@ use Rattle.finite.proofs.Sums.{sum-ext}
 use Rattle.finite.proofs.Tests.{all-ext, all-at, any-in, any-at}
 use Rattle.subsets.specs.Sets.{has, subset}
 use Rattle.subsets.specs.Tree.{under, part, before}
-use Rattle.subsets.specs.Costs.{Cost, none, some, Le, is-some}
-use Rattle.subsets.specs.Net.{charge, Sits, Least}
+use Rattle.subsets.specs.Costs.{Cost, none, some, is-some}
+use Rattle.subsets.specs.Inner.Totals.{Le}
+use Rattle.subsets.specs.Inner.Net.{charge, Sits, Least}
 use Rattle.subsets.proofs.Tree.{under-le, under-cases}
 use Rattle.sheet.specs.Instance.{Instance, WellFormed}
 use Rattle.embedding.specs.Plan.{digit}
 use Rattle.embedding.specs.Splits.{stands, keeps, placeable, weighed}
-use Rattle.embedding.specs.Charge.{net}
+use Rattle.embedding.specs.Inner.Charge.{net}
 use Rattle.embedding.proofs.Digits.{number}
 use Rattle.subsets.proofs.Provided.{provided-some}
 use Rattle.embedding.proofs.Services.{fits-ext, link-keeps-ext}
@@ -108,26 +109,44 @@ module _ (I : Instance) (W : WellFormed I) where
 
   -- ---- the placings tried by number are all placings
 
+  -- some placing of the services of a keeps
+  Keeping : (ℕ → Bool) → ℕ → ℕ → Type 0
+  Keeping T v a = (π : ℕ → ℕ) × (keeps I T v a π ≡ true)
+
+  tried : (T : ℕ → Bool) (v a : ℕ) → Part I T v → (any-below (I .s ^ I .r) (λ n. keeps I T v a (digit (I .s) n)) ≡ true) ↔ Keeping T v a
+  unfolding Keeping
+  tried T v a P = (forth, back)
+    where
+      forth : any-below (I .s ^ I .r) (λ n. keeps I T v a (digit (I .s) n)) ≡ true → Keeping T v a
+      forth e = let w = any-at (I .s ^ I .r) (λ n. keeps I T v a (digit (I .s) n)) e in (digit (I .s) (w .0), w .2)
+
+      back : Keeping T v a → any-below (I .s ^ I .r) (λ n. keeps I T v a (digit (I .s) n)) ≡ true
+      back p =
+          let w = number (I .s) (I .r) (stands I a v (p .0)) (stands-placed I W T v P a (p .0) (keeps-sits T v a (p .0) (p .1))) in
+          any-in (I .s ^ I .r) (λ n. keeps I T v a (digit (I .s) n)) (w .0) (w .1)
+          (keeps-ext T v a (digit (I .s) (w .0)) (p .0) (λ i k e. w .2 i k ∙ stands-in a v (p .0) i e) ∙ p .1)
+
   Placing : (ℕ → Bool) → ℕ → ℕ → Type 0
   Placing T v a = (π : ℕ → ℕ) × Sits (net I) T a π × (k : ℕ) × (charge (net I) T v a π ≡ some k)
 
-  tried : (T : ℕ → Bool) (v a : ℕ) → Part I T v → (any-below (I .s ^ I .r) (λ n. keeps I T v a (digit (I .s) n)) ≡ true) ↔ Placing T v a
-  unfolding Placing
-  tried T v a P = (forth, back)
-    where
-      forth : any-below (I .s ^ I .r) (λ n. keeps I T v a (digit (I .s) n)) ≡ true → Placing T v a
-      forth e =
-          let w = any-at (I .s ^ I .r) (λ n. keeps I T v a (digit (I .s) n)) e in
-          let π : ℕ → ℕ = digit (I .s) (w .0) in
-          let s = keeps-sits T v a π (w .2) in
-          (π, s, part-cost I T v a π, part-charges I W T v P a π s ∙ provided-some (keeps I T v a π) (part-cost I T v a π) (part-cost I T v a π) .1 (w .2, refl))
+  -- a placing keeps exactly when it has a charge
+  kept-charged : (T : ℕ → Bool) (v a : ℕ) → Part I T v → Keeping T v a ↔ Placing T v a
+  unfolding Keeping Placing
+  kept-charged T v a P = (
+    λ w.
+        let s = keeps-sits T v a (w .0) (w .1) in
+        (w .0, s, part-cost I T v a (w .0), part-charges I W T v P a (w .0) s ∙ provided-some (keeps I T v a (w .0)) (part-cost I T v a (w .0)) (part-cost I T v a (w .0)) .1 (w .1, refl)),
+    λ p. (p .0, provided-some (keeps I T v a (p .0)) (part-cost I T v a (p .0)) (p .2) .0 (sym (part-charges I W T v P a (p .0) (p .1)) ∙ p .3) .0),
+  )
 
-      back : Placing T v a → any-below (I .s ^ I .r) (λ n. keeps I T v a (digit (I .s) n)) ≡ true
-      back p =
-          let w = number (I .s) (I .r) (stands I a v (p .0)) (stands-placed I W T v P a (p .0) (p .1)) in
-          any-in (I .s ^ I .r) (λ n. keeps I T v a (digit (I .s) n)) (w .0) (w .1)
-          (keeps-ext T v a (digit (I .s) (w .0)) (p .0) (λ i k e. w .2 i k ∙ stands-in a v (p .0) i e)
-          ∙ provided-some (keeps I T v a (p .0)) (part-cost I T v a (p .0)) (p .2) .0 (sym (part-charges I W T v P a (p .0) (p .1)) ∙ p .3) .0)
+  -- the part before c is a part
+  part-before : (c : ℕ) → 0 < c → c < I .s → Part I (before (I .parent) c) (I .parent c)
+  part-before c z k = part-part (I .parent c) c (omega (arith, W .parents c z))
+
+  -- a set can be placed on the part before c exactly when some placing, of any kind, keeps its capacities
+  pub placeable-iff : (c a : ℕ) → 0 < c → c < I .s → (placeable I c a ≡ true) ↔ ((π : ℕ → ℕ) × (keeps I (before (I .parent) c) (I .parent c) a π ≡ true))
+  unfolding placeable Keeping
+  placeable-iff c a z k = tried (before (I .parent) c) (I .parent c) a (part-before c z k)
 
   -- ---- so the least charge decides
 
@@ -142,10 +161,12 @@ module _ (I : Instance) (W : WellFormed I) where
 
   -- a set can be placed on the part before c exactly when the least charge there is a cost
   pub placeable-least : (c a : ℕ) (f : Cost) → 0 < c → c < I .s → Least (net I) (before (I .parent) c) (I .parent c) a f → placeable I c a ≡ is-some f
-  unfolding placeable
+  unfolding Keeping
   placeable-least c a f z k =
-      let P : Part I (before (I .parent) c) (I .parent c) = part-part (I .parent c) c (omega (arith, W .parents c z)) in
-      decides (before (I .parent) c) (I .parent c) a (placeable I c a) (tried (before (I .parent) c) (I .parent c) a P) f
+      let T = before (I .parent) c in
+      let t = placeable-iff c a z k in
+      let p = kept-charged T (I .parent c) a (part-before c z k) in
+      decides T (I .parent c) a (placeable I c a) (λ e. p .0 (t .0 e), λ w. t .1 (p .1 w)) f
 
   -- the count, from the rows of least charges
   pub weighed-rows : (F : ℕ → ℕ → Cost) → ((c a : ℕ) → 0 < c → c < I .s → a < 2 ^ I .r → Least (net I) (before (I .parent) c) (I .parent c) a (F c a))

@@ -6,17 +6,18 @@ use mathlib.Core.Bool.{Bool, true, _&&_, not}
 use mathlib.Core.List.{List}
 use lib.Dec.{eqb, ltb}
 use Rattle.finite.specs.Below.{only, sum-below, sum-over}
-use Rattle.subsets.specs.Sets.{full, subset}
+use Rattle.subsets.specs.Inner.Masks.{full}
+use Rattle.subsets.specs.Sets.{subset}
 use Rattle.subsets.specs.Tree.{under, before}
 use Rattle.subsets.specs.Costs.{Cost, none, some, is-some}
-use Rattle.subsets.specs.Net.{charge, Least}
+use Rattle.subsets.specs.Inner.Net.{charge, Least}
 use Rattle.sheet.specs.Instance.{Instance, WellFormed}
 use Rattle.embedding.specs.Definition1.{Input, AtMost, member, SimplePath, node-load, edge-load, Feasible, cost}
 use Rattle.embedding.specs.Limits.{Limits}
 use Rattle.embedding.specs.Road.{up, down, tree, road}
 use Rattle.embedding.specs.Plan.{path, routes, weight, carried, in-range, valid, links-cost, plan-cost, cheapest}
-use Rattle.embedding.specs.Splits.{placeable, weighed}
-use Rattle.embedding.specs.Charge.{leaving, entering, net}
+use Rattle.embedding.specs.Splits.{keeps, placeable, weighed}
+use Rattle.embedding.specs.Inner.Charge.{leaving, entering, net}
 use Rattle.embedding.proofs.Feasible as feasible
 use Rattle.embedding.proofs.Edges as edges
 use Rattle.embedding.proofs.Paths.{path-simple, path-only}
@@ -95,7 +96,11 @@ module _ (I : Instance) (W : WellFormed I) where
       (charge (net I) (λ d. true) 0 (full (I .r)) π ≡ some k) ↔ ((valid I π ≡ true) × (plan-cost I π ≡ k))
   charges π h = charged.charges-iff I W π (range-test I π .0 h)
 
-  -- A set can be placed on the part before c exactly when the least charge there is a cost.
+  -- A set can be placed on the part before c exactly when some placing of it there, of any kind, keeps the capacities.
+  pub placeable-iff : (c a : ℕ) → 0 < c → c < I .s → (placeable I c a ≡ true) ↔ ((π : ℕ → ℕ) × (keeps I (before (I .parent) c) (I .parent c) a π ≡ true))
+  placeable-iff = splits.placeable-iff I W
+
+  -- And exactly when the least charge there is a cost.
   pub placeable-least : (c a : ℕ) (f : Cost) → 0 < c → c < I .s → Least (net I) (before (I .parent) c) (I .parent c) a f → placeable I c a ≡ is-some f
   placeable-least = splits.placeable-least I W
 

@@ -1,7 +1,7 @@
--- The rule of planning: Definition 1 of source document 000, and 01's plans and splits on a road.
+-- The rule of planning: Definition 1 of source document 000, and 01's plans and splits on a road. Inner need not be read.
 pub mod Definition1
 pub mod Limits
 pub mod Road
 pub mod Plan
 pub mod Splits
-pub mod Charge
+pub mod Inner

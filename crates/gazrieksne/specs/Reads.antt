@@ -2,7 +2,7 @@
 use Prim.Native.Nat.{ℕ}
 use mathlib.Core.List.{List, [], _∷_}
 use Rattle.sheet.specs.Records.{service-record, cabinet-record, stream-record}
-use Rattle.sheet.specs.Refusals.{number-of, group-of}
+use Rattle.sheet.specs.Reading as readings
 use Rattle.sheet.specs.declared.Reading.{Reading}
 use Rattle.sheet.specs.declared.Reading.the-variants.{Accepted, Refused}
 use Rattle.sheet.specs.declared.ServiceRecord.{ServiceRecord}
@@ -12,15 +12,9 @@ use Rattle.sheet.specs.declared.CabinetRecord.the-variants as cabinets
 use Rattle.sheet.specs.declared.StreamRecord.{StreamRecord}
 use Rattle.sheet.specs.declared.StreamRecord.the-variants as streams
 
--- gz_read returns the refusal's number, 0 for an accepted sheet
-abbrev pub read-number : Reading → ℕ
-read-number (Accepted h) = 0
-read-number (Refused f) = number-of f
-
--- and writes group, services, cabinets and streams
+-- gz_read writes group, services, cabinets and streams
 abbrev pub read-counts : Reading → List ℕ
-read-counts (Accepted h) = 0 ∷ h .services ∷ h .cabinets ∷ h .streams ∷ []
-read-counts (Refused f) = group-of f ∷ 0 ∷ 0 ∷ 0 ∷ []
+read-counts a = readings.group a ∷ readings.services a ∷ readings.cabinets a ∷ readings.streams a ∷ []
 
 -- a record call gives nothing for bytes that the reader refuses
 abbrev pub service-of : Reading → List ℕ → ℕ → ServiceRecord

@@ -1,7 +1,7 @@
 // The entry points of the reader.
 ghost use mathlib.Core.Path.{_≡_};
-ghost use Rattle.sheet.specs.Reading.{reading};
-ghost use Rattle.gazrieksne.specs.Reads.{read-number, read-counts, service-of, service-flag, service-words, cabinet-of, cabinet-flag, cabinet-words, stream-of, stream-flag, stream-words};
+ghost use Rattle.sheet.specs.Reading.{reading, number};
+ghost use Rattle.gazrieksne.specs.Reads.{read-counts, service-of, service-flag, service-words, cabinet-of, cabinet-flag, cabinet-words, stream-of, stream-flag, stream-words};
 use sheet::Cabinet;
 use sheet::CabinetRecord;
 use sheet::Reading;
@@ -21,7 +21,7 @@ pub(crate) fn wide(n: u16) -> u64
 // Group, services, cabinets and streams; the refusal's number, 0 for none.
 #[no_mangle]
 pub extern "C" fn gz_read(bytes: &[u8], counts: &mut [u64; 4]) -> u64
-    ensures number { λ r. ⌜ r ≡ read-number (reading (now (bytes .entry))) ⌝ }
+    ensures number { λ r. ⌜ r ≡ number (reading (now (bytes .entry))) ⌝ }
     ensures counts { λ r. ⌜ now (counts .exit) ≡ read-counts (reading (now (bytes .entry))) ⌝ }
 {
     match sheet::read(bytes) {

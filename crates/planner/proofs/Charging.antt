@@ -10,16 +10,17 @@ use lib.ListN.{getD}
 use Rattle.finite.specs.Below.{only, sum-below}
 use Rattle.finite.proofs.Sums.{sum-ext, sum-mul}
 use Rattle.subsets.specs.Sets.{has}
-use Rattle.subsets.specs.Tree.{Falls}
+use Rattle.subsets.specs.Inner.Net.{Falls}
 use Rattle.subsets.specs.Costs.{some, provided}
-use Rattle.subsets.specs.Figures.{limit, figure}
+use Rattle.subsets.specs.Figures.{limit}
+use Rattle.subsets.specs.Inner.Encoded.{figure}
 use Rattle.sheet.specs.Instance.{Instance, WellFormed}
 use Rattle.embedding.specs.Plan.{fits, link-fits, fee, weight}
-use Rattle.embedding.specs.Charge.{leaving, entering, cabinet-charge, link-charge, net}
+use Rattle.embedding.specs.Inner.Charge.{leaving, entering, cabinet-charge, link-charge, net}
 use Rattle.embedding.proofs.Bound.{demand-le, leaving-le, entering-le, cabinet-charge-le, link-charge-le}
-use Rattle.planner.specs.Loaded.{held, cabinet-of}
-use Rattle.planner.specs.Sums.{demand-in, flow-out, own-figure, link-figure}
-use Rattle.planner.specs.Tables.{Flows, Summed}
+use Rattle.planner.specs.Inner.Loaded.{held, cabinet-of}
+use Rattle.planner.specs.Inner.Sums.{demand-in, flow-out, own-figure, link-figure}
+use Rattle.planner.specs.Inner.Tables.{Flows, Summed}
 use Rattle.planner.specs.declared.Records.{Records}
 
 only-mul : (b : Bool) (m n : ℕ) → only b m * n ≡ only b (m * n)

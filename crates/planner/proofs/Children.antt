@@ -5,10 +5,10 @@ use mathlib.Core.Path.{_≡_, refl, _∙_, subst}
 use mathlib.Core.Bool.{Bool, true, false, _&&_}
 use lib.Dec.{ltb}
 use borrow.Author.Tests.{ne-eqb}
-use Rattle.subsets.specs.Tree.{Falls}
-use Rattle.subsets.specs.Net.{Net}
-use Rattle.subsets.specs.Rows.{child, row-at}
-use Rattle.subsets.specs.Count.{joins}
+use Rattle.subsets.specs.Inner.Net.{Falls}
+use Rattle.subsets.specs.Inner.Net.{Net}
+use Rattle.subsets.specs.Inner.Rows.{child, row-at}
+use Rattle.subsets.specs.Inner.Count.{joins}
 use Rattle.subsets.proofs.Rows.{child-parent, child-of, row-alone, row-pass}
 use Rattle.subsets.proofs.Count.{joins-none, joins-pass}
 

@@ -14,7 +14,7 @@ use Rattle.sheet.specs.declared.Cabinet.{Cabinet}
 use Rattle.sheet.specs.Instance as sheets
 use Rattle.sheet.specs.Instance.{instance}
 use Rattle.planner.specs.declared.Records.{Records}
-use Rattle.planner.specs.Loaded.{no-cabinet, cabinet-of, held, Column, Loading}
+use Rattle.planner.specs.Inner.Loaded.{no-cabinet, cabinet-of, held, Column, Loading}
 
 module _ {A : Type 0} (places : ℕ) (empty : A) (f : ℕ → A) where
   -- an empty array

@@ -9,16 +9,16 @@ use lib.Dec.{eqb, ltb}
 use borrow.Author.Tests.{eqb-true, eqb-false, lt-ltb, ltb-true, ltb-false}
 use Rattle.finite.specs.Below.{only, sum-below}
 use Rattle.finite.proofs.Booleans.{clash}
-use Rattle.subsets.specs.Rows.{child, row-at, choice-at}
-use Rattle.subsets.specs.Count as counts
-use Rattle.subsets.specs.Count.{flagged, joins}
+use Rattle.subsets.specs.Inner.Rows.{child, row-at, choice-at}
+use Rattle.subsets.specs.Inner.Count as counts
+use Rattle.subsets.specs.Inner.Count.{flagged, joins}
 use Rattle.subsets.proofs.Rows.{child-parent, row-before}
 use Rattle.subsets.proofs.Count.{joins-weighed, triples-le}
 use Rattle.sheet.specs.Instance.{Instance, WellFormed}
-use Rattle.embedding.specs.Charge.{net}
+use Rattle.embedding.specs.Inner.Charge.{net}
 use Rattle.embedding.specs.Splits.{weighed}
 use Rattle.embedding.proofs.Theorems.{weighed-rows}
-use Rattle.planner.specs.Tables.{entry, cost-entry, choice-entry, Rebuilt, Filled}
+use Rattle.planner.specs.Inner.Tables.{entry, cost-entry, choice-entry, Rebuilt, Filled}
 use Rattle.planner.proofs.Children.{child-is}
 
 module _ (I : Instance) where

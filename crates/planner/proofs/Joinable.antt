@@ -4,16 +4,16 @@ use native.Mathlib.Omega.{arith}
 use mathlib.Core.Path.{_≡_, ap, ap₂, _∙_}
 use mathlib.Core.List.{List}
 use lib.ListN.{length, getD}
-use Rattle.subsets.specs.Rows.{row-at}
-use Rattle.subsets.specs.Folds.{Holds, counted-below}
+use Rattle.subsets.specs.Inner.Rows.{row-at}
+use Rattle.subsets.specs.Inner.Folds.{Holds, counted-below}
 use Rattle.subsets.proofs.Tables.{next-figure, next-choice, next-count}
 use Rattle.sheet.specs.Instance.{Instance}
 use Rattle.sheet.specs.declared.Cabinet.{Cabinet}
-use Rattle.embedding.specs.Charge.{link-charge, net}
-use Rattle.planner.specs.Loaded.{cabinet-of}
-use Rattle.planner.specs.Sums.{link-figure}
-use Rattle.planner.specs.Joins.{Joined}
-use Rattle.planner.specs.Tables.{entry, cost-entry, Joinable, JoinedChild}
+use Rattle.embedding.specs.Inner.Charge.{link-charge, net}
+use Rattle.planner.specs.Inner.Loaded.{cabinet-of}
+use Rattle.planner.specs.Inner.Sums.{link-figure}
+use Rattle.planner.specs.Inner.Joins.{Joined}
+use Rattle.planner.specs.Inner.Tables.{entry, cost-entry, Joinable, JoinedChild}
 use Rattle.planner.proofs.Children.{child-above}
 use Rattle.planner.proofs.Charging.{link-is, flows-small, falls, nodes, links, small}
 use Rattle.planner.proofs.Parted.{Room, room, row-of, put-row, row-length, row-entry, row-put}

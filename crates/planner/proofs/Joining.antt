@@ -10,11 +10,11 @@ use lib.Seq.{getD-set-same, getD-set-other}
 use Rattle.finite.specs.Below.{sum-below}
 use Rattle.finite.proofs.Sums.{sum-le}
 use Rattle.subsets.specs.declared.Best.{Best}
-use Rattle.subsets.specs.Folds as folds
-use Rattle.subsets.specs.Folds.{start, best-split, counted-below}
+use Rattle.subsets.specs.Inner.Folds as folds
+use Rattle.subsets.specs.Inner.Folds.{start, best-split, counted-below}
 use Rattle.subsets.proofs.Sets.{sub-le}
 use Rattle.subsets.proofs.Folds.{scan-count-le, best-sub, best-row}
-use Rattle.planner.specs.Joins.{Joined}
+use Rattle.planner.specs.Inner.Joins.{Joined}
 
 module _ (row child link : List ℕ) where
   -- the splits counted for one set

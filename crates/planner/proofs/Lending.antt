@@ -1,17 +1,17 @@
 -- The lender's refusals, and what the whole of the memory lent holds once its first part was used.
-use Prim.Native.Nat.{ℕ, _≤_, _<_}
+use Prim.Native.Nat.{ℕ, _+_, _≤_, _<_}
 use native.Mathlib.Omega.{arith}
 use mathlib.Core.Path.{_≡_, refl, sym, ap, _∙_}
 use mathlib.Core.Bool.{true, _||_}
 use mathlib.Core.List.{List, _++_}
 use lib.Dec.{ltb}
-use lib.ListN.{length, take, drop, replicate, take-append-drop, List·getD-append}
+use lib.ListN.{length, take, drop, replicate, length-append, take-append-drop, List·getD-append}
 use lib.Seq.{take-at}
 use borrow.Author.Tests.{lt-ltb, le-ltb, ne-eqb}
 use Rattle.finite.proofs.Booleans.{either-r, neither}
 use Rattle.subsets.specs.Costs.{Cost, none, some}
 use Rattle.sheet.specs.Instance.{Instance, WellFormed}
-use Rattle.sheet.specs.Refusals.{lowest, refusal, number-of}
+use Rattle.sheet.specs.Refusals.{first-applying, refusal, number-of}
 use Rattle.sheet.specs.Reading.{reading}
 use Rattle.sheet.specs.declared.Refusal.{Refusal}
 use Rattle.sheet.specs.declared.Reading.the-variants as readers
@@ -24,26 +24,26 @@ use Rattle.subsets.proofs.Provided.{provided-some}
 use Rattle.embedding.proofs.Services.{worth-ext}
 use Rattle.planner.specs.declared.Planned.{Planned}
 use Rattle.planner.specs.declared.Planned.the-variants.{Plan, Refused}
-use Rattle.planner.specs.Answers.{entries, rules, solved, lent}
+use Rattle.planner.specs.Answers.{entries, lender-rules, solved, lent}
 use Rattle.planner.specs.Lent.{used, table-after, plan-in, OutputAfter}
 
 module _ (I : Instance) (output costs choices : ℕ) where
-  pub short-output : output < I .r → Refused (Lender 10) 0 ≡ lent (lowest (rules I output costs choices)) I
-  unfolding lowest refusal
+  pub short-output : output < I .r → Refused (Lender 10) 0 ≡ lent (first-applying (lender-rules I output costs choices)) I
+  unfolding first-applying refusal
   short-output h = simp (lt-ltb output (I .r) h)
 
-  short-table : I .r ≤ output → ltb costs (entries I) || ltb choices (entries I) ≡ true → Refused (Lender 11) 0 ≡ lent (lowest (rules I output costs choices)) I
-  unfolding lowest refusal
+  short-table : I .r ≤ output → ltb costs (entries I) || ltb choices (entries I) ≡ true → Refused (Lender 11) 0 ≡ lent (first-applying (lender-rules I output costs choices)) I
+  unfolding first-applying refusal
   short-table h e = simp (le-ltb output (I .r) h, e)
 
-  pub short-costs : I .r ≤ output → costs < entries I → Refused (Lender 11) 0 ≡ lent (lowest (rules I output costs choices)) I
+  pub short-costs : I .r ≤ output → costs < entries I → Refused (Lender 11) 0 ≡ lent (first-applying (lender-rules I output costs choices)) I
   short-costs h l = short-table h (rw (lt-ltb costs (entries I) l))
 
-  pub short-choices : I .r ≤ output → choices < entries I → Refused (Lender 11) 0 ≡ lent (lowest (rules I output costs choices)) I
+  pub short-choices : I .r ≤ output → choices < entries I → Refused (Lender 11) 0 ≡ lent (first-applying (lender-rules I output costs choices)) I
   short-choices h l = short-table h (either-r (ltb costs (entries I)) _ (lt-ltb choices (entries I) l))
 
-  pub enough : I .r ≤ output → entries I ≤ costs → entries I ≤ choices → solved (cheapest I) (weighed I) ≡ lent (lowest (rules I output costs choices)) I
-  unfolding lowest
+  pub enough : I .r ≤ output → entries I ≤ costs → entries I ≤ choices → solved (cheapest I) (weighed I) ≡ lent (first-applying (lender-rules I output costs choices)) I
+  unfolding first-applying
   enough h k l = simp (le-ltb output (I .r) h, neither (ltb costs (entries I)) _ (le-ltb costs (entries I) k) (le-ltb choices (entries I) l))
 
 -- with memory enough the tables are used
@@ -60,11 +60,15 @@ table-lifted I a f n table part e p =
 -- the output whose first part was written
 pub output-lifted : (I : Instance) → WellFormed I → (a : Planned) (output part : List ℕ) → length part ≡ I .r → OutputAfter I a (take (I .r) output) part → OutputAfter I a output (part ++ drop (I .r) output)
 unfolding plans.worth
-output-lifted I W (Plan k n) output part e (v, c, s) =
+output-lifted I W (Plan k n) output part e (s, v, c, w) =
     let π : ℕ → ℕ = plan-in (part ++ drop (I .r) output) in
     let good = provided-some (valid I π) (plan-cost I π) k .0
-    (worth-ext I W π (plan-in part) (λ i l. List·getD-append part (drop (I .r) output) 0 i (omega arith)) ∙ provided-some (valid I (plan-in part)) (plan-cost I (plan-in part)) k .1 (v, c)) in
-    (good .0, good .1, ap (λ (l : List ℕ). l ++ drop (I .r) output) (sym (take-at part (drop (I .r) output) (I .r) e)))
+    (worth-ext I W π (plan-in part) (λ i l. List·getD-append part (drop (I .r) output) 0 i (omega arith)) ∙ provided-some (valid I (plan-in part)) (plan-cost I (plan-in part)) k .1 (v, c)) in (
+      length-append part (drop (I .r) output) ∙ ap (λ (m : ℕ). m + length (drop (I .r) output)) s ∙ sym (length-append (take (I .r) output) (drop (I .r) output)) ∙ ap length (take-append-drop (I .r) output),
+      good .0,
+      good .1,
+      ap (λ (l : List ℕ). l ++ drop (I .r) output) (sym (take-at part (drop (I .r) output) (I .r) e)),
+    )
 output-lifted I W (Refused f n) output part e s = ap (λ (l : List ℕ). l ++ drop (I .r) output) s ∙ take-append-drop (I .r) output
 
 -- with a refusal that the reader gave the tables are not used

@@ -12,4 +12,5 @@ mod Walking
 mod Columns
 mod Solving
 pub mod Lending
+pub mod Order
 mod Bounding

@@ -12,7 +12,7 @@ use lib.Seq.{getD-append-add, getD-take, getD-drop, length-take-le}
 use borrow.Rule.Slice.PartMut.{putMid, same-len-mid}
 use borrow.Author.Tests.{ltb-true, ltb-false}
 use Rattle.sheet.specs.Instance.{Instance}
-use Rattle.planner.specs.Tables.{entry, Ready, RowSet}
+use Rattle.planner.specs.Inner.Tables.{entry, Ready, RowSet}
 use Rattle.planner.proofs.Charging.{sets-le}
 
 -- ---- rows one after the other

@@ -12,18 +12,18 @@ use borrow.Author.Tests.{eqb-true, eqb-false}
 use Rattle.finite.specs.Below.{only}
 use Rattle.finite.proofs.Booleans.{clash}
 use Rattle.finite.proofs.Sums.{sum-le, only-le}
-use Rattle.subsets.specs.Figures.{figure}
-use Rattle.subsets.specs.Rows.{child, choice-at}
-use Rattle.subsets.specs.Count as counts
-use Rattle.subsets.specs.Count.{pairs, flagged, joins}
+use Rattle.subsets.specs.Inner.Encoded.{figure}
+use Rattle.subsets.specs.Inner.Rows.{child, choice-at}
+use Rattle.subsets.specs.Inner.Count as counts
+use Rattle.subsets.specs.Inner.Count.{pairs, flagged, joins}
 use Rattle.subsets.proofs.Rows.{row-pass}
 use Rattle.subsets.proofs.Count.{joins-child, joins-pass, pairs-le}
 use Rattle.sheet.specs.Instance.{Instance, WellFormed}
 use Rattle.sheet.specs.declared.Cabinet.{Cabinet}
-use Rattle.embedding.specs.Charge.{cabinet-charge, net}
-use Rattle.planner.specs.Loaded.{cabinet-of}
-use Rattle.planner.specs.Sums.{own-figure}
-use Rattle.planner.specs.Tables.{entry, Ready, Flows, Summed, RowSet, Joinable, JoinedChild, Rebuilt, Above}
+use Rattle.embedding.specs.Inner.Charge.{cabinet-charge, net}
+use Rattle.planner.specs.Inner.Loaded.{cabinet-of}
+use Rattle.planner.specs.Inner.Sums.{own-figure}
+use Rattle.planner.specs.Inner.Tables.{entry, Ready, Flows, Summed, RowSet, Joinable, JoinedChild, Rebuilt, Above}
 use Rattle.planner.proofs.Charging.{own-is}
 use Rattle.planner.proofs.Parted.{room, row-of, put-row, row-length, put-length, row-put}
 use Rattle.planner.proofs.Children.{row-start, joins-start, none-up-to}

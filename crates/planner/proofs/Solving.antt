@@ -8,25 +8,26 @@ use lib.Bits.{bitAnd}
 use lib.ListN.{getD}
 use borrow.Author.Tests.{lt-ltb}
 use Rattle.finite.specs.Below.{only}
-use Rattle.subsets.specs.Sets.{full}
+use Rattle.subsets.specs.Inner.Masks.{full}
 use Rattle.subsets.specs.Costs.{Cost, none, some}
-use Rattle.subsets.specs.Figures as figures
-use Rattle.subsets.specs.Figures.{limit, figure}
-use Rattle.subsets.specs.Splits.{split-charge}
-use Rattle.subsets.specs.Rows.{row-at, choice-at}
-use Rattle.subsets.specs.Back.{seat, Wins}
+use Rattle.subsets.specs.Inner.Encoded as encoded
+use Rattle.subsets.specs.Figures.{limit}
+use Rattle.subsets.specs.Inner.Encoded.{figure}
+use Rattle.subsets.specs.Inner.Splits.{split-charge}
+use Rattle.subsets.specs.Inner.Rows.{row-at, choice-at}
+use Rattle.subsets.specs.Inner.Back.{seat, Wins}
 use Rattle.subsets.proofs.Sets.{has-full, full-lt}
 use Rattle.subsets.proofs.Rows.{row-root}
 use Rattle.subsets.proofs.Back.{choice-wins, seat-root}
 use Rattle.sheet.specs.Instance.{Instance, WellFormed}
 use Rattle.embedding.specs.Plan as plans
 use Rattle.embedding.specs.Plan.{in-range, valid, plan-cost, worth, cheapest}
-use Rattle.embedding.specs.Charge.{net}
+use Rattle.embedding.specs.Inner.Charge.{net}
 use Rattle.embedding.proofs.Mappings.{range-test}
 use Rattle.subsets.proofs.Provided.{provided-some}
 use Rattle.embedding.proofs.Services.{worth-ext}
 use Rattle.embedding.proofs.Theorems.{charge-bound, charges, cheapest-least}
-use Rattle.planner.specs.Tables.{entry, cost-entry, choice-entry, Filled}
+use Rattle.planner.specs.Inner.Tables.{entry, cost-entry, choice-entry, Filled}
 use Rattle.planner.specs.Lent.{plan-in}
 
 module _ (I : Instance) (W : WellFormed I) where
@@ -51,7 +52,7 @@ module _ (I : Instance) (W : WellFormed I) where
 
     -- is 'none' exactly where no plan is valid
     pub no-plan : limit < getD t (2 ^ I .r - 1) 0 → cheapest I ≡ none
-    unfolding figures.figure
+    unfolding encoded.figure
     no-plan h = go (cheapest I) refl
       where
         go : (f : Cost) → cheapest I ≡ f → cheapest I ≡ none
@@ -59,7 +60,7 @@ module _ (I : Instance) (W : WellFormed I) where
         go (some k) e = absurd (omega (arith, h, root-figure ∙ ap figure e, cheapest-small k e))
 
     pub some-plan : getD t (2 ^ I .r - 1) 0 ≤ limit → cheapest I ≡ some (getD t (2 ^ I .r - 1) 0)
-    unfolding figures.figure
+    unfolding encoded.figure
     some-plan h = go (cheapest I) refl
       where
         go : (f : Cost) → cheapest I ≡ f → cheapest I ≡ some (getD t (2 ^ I .r - 1) 0)

@@ -7,7 +7,7 @@ use mathlib.Core.List.{List}
 use lib.ListN.{getD}
 use Rattle.finite.specs.Below.{only, sum-below}
 use Rattle.subsets.specs.Sets.{has}
-use Rattle.planner.specs.Sums.{demand-in, flow-out}
+use Rattle.planner.specs.Inner.Sums.{demand-in, flow-out}
 
 sum-next : (n : ℕ) (f : ℕ → ℕ) → sum-below (n + 1) f ≡ sum-below n f + f n
 unfolding sum-below

@@ -6,9 +6,9 @@ use mathlib.Core.Path.{_≡_, refl, sym, _∙_}
 use mathlib.Core.Bool.{true, false}
 use lib.Bits.{bitAnd, and-le-r}
 use Rattle.subsets.specs.Sets.{has}
-use Rattle.subsets.specs.Tree.{Falls}
-use Rattle.subsets.specs.Net.{Net}
-use Rattle.subsets.specs.Back.{seat}
+use Rattle.subsets.specs.Inner.Net.{Falls}
+use Rattle.subsets.specs.Inner.Net.{Net}
+use Rattle.subsets.specs.Inner.Back.{seat}
 use Rattle.subsets.proofs.Back.{seat-end, seat-pass, seat-stay, seat-leave}
 use Rattle.planner.proofs.Children.{child-is, child-not, none-up-to}
 

@@ -4,7 +4,7 @@ use mathlib.Core.Path.{_≡_}
 use mathlib.Core.Bool.{Bool, true, cond}
 use mathlib.Core.List.{List, _++_}
 use lib.Dec.{eqb}
-use lib.ListN.{getD, take, drop, replicate}
+use lib.ListN.{length, getD, take, drop, replicate}
 use Rattle.sheet.specs.Instance.{Instance}
 use Rattle.embedding.specs.Plan.{valid, plan-cost}
 use Rattle.planner.specs.Answers.{number, entries}
@@ -25,8 +25,11 @@ abbrev pub plan-in : List ℕ → ℕ → ℕ
 plan-in output i = getD output i 0
 
 -- the output after the call: with a plan its first r places are some valid plan of the cost answered, and all other places stay;
--- which of several cheapest plans it is is free. With a refusal all places stay.
+-- which of several cheapest plans it is is free. With a refusal all places stay. The length stays in both.
 abbrev pub OutputAfter : Instance → Planned → List ℕ → List ℕ → Type 0
 OutputAfter I (Plan k n) output output' =
-    (valid I (plan-in output') ≡ true) × (plan-cost I (plan-in output') ≡ k) × (output' ≡ take (I .r) output' ++ drop (I .r) output)
+    (length output' ≡ length output)
+    × (valid I (plan-in output') ≡ true)
+    × (plan-cost I (plan-in output') ≡ k)
+    × (output' ≡ take (I .r) output' ++ drop (I .r) output)
 OutputAfter I (Refused f n) output output' = output' ≡ output

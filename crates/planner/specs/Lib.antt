@@ -1,8 +1,5 @@
--- What the planner answers, and what it leaves in the memory lent to it; then what its helpers hold on the way.
+-- What the planner answers, and what it leaves in the memory lent to it. Inner need not be read.
 pub mod Answers
 pub mod Lent
 pub mod Bounds
-pub mod Loaded
-pub mod Sums
-pub mod Joins
-pub mod Tables
+pub mod Inner

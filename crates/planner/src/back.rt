@@ -2,10 +2,10 @@
 ghost use mathlib.Core.Path.{_≡_};
 ghost use Prim.Native.Nat.{ℕ, _*_, _^_, _<_};
 ghost use lib.ListN.{length, getD};
-ghost use Rattle.subsets.specs.Back.{seat};
-ghost use Rattle.embedding.specs.Charge.{net};
-ghost use Rattle.planner.specs.Loaded.{held};
-ghost use Rattle.planner.specs.Tables.{entry, Readable};
+ghost use Rattle.subsets.specs.Inner.Back.{seat};
+ghost use Rattle.embedding.specs.Inner.Charge.{net};
+ghost use Rattle.planner.specs.Inner.Loaded.{held};
+ghost use Rattle.planner.specs.Inner.Tables.{entry, Readable};
 use crate::Records;
 use subsets::member;
 

@@ -5,7 +5,7 @@ ghost use Prim.Native.Nat.{ℕ, _≤_, _<_};
 ghost use lib.ListN.{length, getD};
 ghost use Rattle.finite.specs.Below.{only};
 ghost use Rattle.subsets.specs.Sets.{has};
-ghost use Rattle.planner.specs.Sums.{demand-in, flow-out, own-figure, link-figure};
+ghost use Rattle.planner.specs.Inner.Sums.{demand-in, flow-out, own-figure, link-figure};
 use crate::SETS;
 use sheet::Cabinet;
 use sheet::Sheet;

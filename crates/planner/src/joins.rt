@@ -2,8 +2,8 @@
 ghost use mathlib.Core.Path.{_≡_};
 ghost use Prim.Native.Nat.{_+_, _^_, _≤_, _<_};
 ghost use lib.ListN.{length};
-ghost use Rattle.subsets.specs.Folds.{after, best-split};
-ghost use Rattle.planner.specs.Joins.{Joined};
+ghost use Rattle.subsets.specs.Inner.Folds.{after, best-split};
+ghost use Rattle.planner.specs.Inner.Joins.{Joined};
 use crate::SETS;
 use subsets::Best;
 use subsets::NONE;

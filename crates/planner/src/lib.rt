@@ -5,13 +5,13 @@ ghost use lib.ListN.{length, replicate};
 ghost use Rattle.sheet.specs.Instance.{WellFormed, instance};
 ghost use Rattle.sheet.specs.Reading.{reading};
 ghost use Rattle.sheet.specs.declared.Reading.the-variants.{Accepted};
-ghost use Rattle.sheet.specs.Refusals.{lowest};
+ghost use Rattle.sheet.specs.Refusals.{first-applying};
 ghost use Rattle.embedding.specs.Plan.{cheapest};
 ghost use Rattle.embedding.specs.Splits.{weighed};
-ghost use Rattle.planner.specs.Answers.{entries, rules, solved, lent, planned};
+ghost use Rattle.planner.specs.Answers.{entries, lender-rules, solved, lent, planned};
 ghost use Rattle.planner.specs.Lent.{table-after, OutputAfter};
 ghost use Rattle.planner.specs.Bounds.{split-bound};
-ghost use Rattle.planner.specs.Loaded.{held};
+ghost use Rattle.planner.specs.Inner.Loaded.{held};
 use sheet::Cabinet;
 use sheet::Reading;
 use sheet::Refusal;
@@ -101,7 +101,7 @@ fn plan_accepted(
     choices: &mut [u16],
 ) -> Planned
     requires { ⌜ reading (now bytes) ≡ Accepted sheet ⌝ }
-    ensures answer { λ a. ⌜ a ≡ lent (lowest (rules (instance (now (bytes .entry))) (length (now (output .entry))) (length (now (costs .entry))) (length (now (choices .entry)))))
+    ensures answer { λ a. ⌜ a ≡ lent (first-applying (lender-rules (instance (now (bytes .entry))) (length (now (output .entry))) (length (now (costs .entry))) (length (now (choices .entry)))))
         (instance (now (bytes .entry))) ⌝ }
     ensures output { λ a. ⌜ OutputAfter (instance (now (bytes .entry))) a (now (output .entry)) (now (output .exit)) ⌝ }
     ensures costs { λ a. ⌜ now (costs .exit) ≡ table-after (instance (now (bytes .entry))) a (now (costs .entry)) ⌝ }

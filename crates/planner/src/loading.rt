@@ -5,7 +5,7 @@ ghost use lib.ListN.{replicate};
 ghost use Rattle.sheet.specs.Instance.{instance};
 ghost use Rattle.sheet.specs.Reading.{reading};
 ghost use Rattle.sheet.specs.declared.Reading.the-variants.{Accepted};
-ghost use Rattle.planner.specs.Loaded.{no-cabinet, cabinet-of, held, Loading};
+ghost use Rattle.planner.specs.Inner.Loaded.{no-cabinet, cabinet-of, held, Loading};
 use crate::Records;
 use sheet::Cabinet;
 use sheet::CabinetRecord;

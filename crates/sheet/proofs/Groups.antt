@@ -8,7 +8,7 @@ use lib.Dec.{leb}
 use borrow.Author.Tests.{leb-true}
 use Rattle.finite.proofs.Booleans.{both-l, both-r}
 use Rattle.sheet.specs.Layout.{header}
-use Rattle.sheet.specs.Refusals.{Rule, refusal, number-of, lowest}
+use Rattle.sheet.specs.Refusals.{sheet-writers, lenders, roads, one-of, Rule, refusal, number-of, first-applying}
 use Rattle.sheet.specs.Reading.{rules, answered, reading}
 use Rattle.sheet.specs.declared.Refusal.{Refusal}
 use Rattle.sheet.specs.declared.Refusal.the-variants.{SheetWriter, Lender, Road, PlanWriter}
@@ -18,7 +18,7 @@ use Rattle.sheet.specs.declared.Reading.the-variants.{Refused}
 -- the refusal of a number carries that number
 pub number-refusal : (n : ℕ) → number-of (refusal n) ≡ n
 unfolding refusal
-number-refusal n = go (leb n 9) (leb n 11) (leb n 12)
+number-refusal n = go (one-of sheet-writers n) (one-of lenders n) (one-of roads n)
   where
     go : (p q r : Bool) → number-of (cond p (SheetWriter n) (cond q (Lender n) (cond r (Road n) (PlanWriter n)))) ≡ n
     go true q r = refl
@@ -38,7 +38,7 @@ given (suc n) h f e = own-group f (suc n) (cc)
 -- every refusal of the reader stands in the group of its number
 pub reading-group : (bytes : List ℕ) (f : Refusal) → reading bytes ≡ Refused f → f ≡ refusal (number-of f)
 unfolding reading
-reading-group bytes f e = given (lowest (rules bytes)) (header bytes) f e
+reading-group bytes f e = given (first-applying (rules bytes)) (header bytes) f e
 
 -- ---- the numbers of a list of rules
 
@@ -48,13 +48,13 @@ numbered low high [] = true
 numbered low high (x ∷ xs) = (leb low (x .number) && leb (x .number) high) && numbered low high xs
 
 -- so has the one that is given
-pub lowest-between : (low high : ℕ) (xs : List Rule) → numbered low high xs ≡ true → (n : ℕ) → lowest xs ≡ suc n → (low ≤ suc n) × (suc n ≤ high)
-unfolding lowest
-lowest-between low high [] b n e = absurd (omega arith)
-lowest-between low high (x ∷ xs) b n e =
-    go (x .applies) refl (both-l (leb low (x .number) && leb (x .number) high) (numbered low high xs) b) (lowest-between low high xs (both-r (leb low (x .number) && leb (x .number) high) (numbered low high xs) b) n)
+pub first-between : (low high : ℕ) (xs : List Rule) → numbered low high xs ≡ true → (n : ℕ) → first-applying xs ≡ suc n → (low ≤ suc n) × (suc n ≤ high)
+unfolding first-applying
+first-between low high [] b n e = absurd (omega arith)
+first-between low high (x ∷ xs) b n e =
+    go (x .applies) refl (both-l (leb low (x .number) && leb (x .number) high) (numbered low high xs) b) (first-between low high xs (both-r (leb low (x .number) && leb (x .number) high) (numbered low high xs) b) n)
   where
-    go : (t : Bool) → x .applies ≡ t → leb low (x .number) && leb (x .number) high ≡ true → (lowest xs ≡ suc n → (low ≤ suc n) × (suc n ≤ high)) → (low ≤ suc n) × (suc n ≤ high)
+    go : (t : Bool) → x .applies ≡ t → leb low (x .number) && leb (x .number) high ≡ true → (first-applying xs ≡ suc n → (low ≤ suc n) × (suc n ≤ high)) → (low ≤ suc n) × (suc n ≤ high)
     go true q h ih =
         let k : x .number ≡ suc n = simp q at e in
         (omega (arith, leb-true low (x .number) (both-l (leb low (x .number)) (leb (x .number) high) h)), omega (arith, leb-true (x .number) high (both-r (leb low (x .number)) (leb (x .number) high) h)))
@@ -63,11 +63,11 @@ lowest-between low high (x ∷ xs) b n e =
 -- the reader's numbers are 1 to 9
 pub reading-number : (bytes : List ℕ) (f : Refusal) → reading bytes ≡ Refused f → (1 ≤ number-of f) × (number-of f ≤ 9)
 unfolding reading rules answered
-reading-number bytes f e = go (lowest (rules bytes)) refl e
+reading-number bytes f e = go (first-applying (rules bytes)) refl e
   where
-    go : (m : ℕ) → lowest (rules bytes) ≡ m → answered m (header bytes) ≡ Refused f → (1 ≤ number-of f) × (number-of f ≤ 9)
+    go : (m : ℕ) → first-applying (rules bytes) ≡ m → answered m (header bytes) ≡ Refused f → (1 ≤ number-of f) × (number-of f ≤ 9)
     go zero q e = absurd (let z : _≡_ {A = ℕ} 0 1 = cc in omega arith)
     go (suc n) q e =
-        let b = lowest-between 1 9 (rules bytes) refl n q in
+        let b = first-between 1 9 (rules bytes) refl n q in
         let k : number-of f ≡ suc n = ap number-of (let z : f ≡ refusal (suc n) = cc in z) ∙ number-refusal (suc n) in
         (omega (arith, b .0), omega (arith, b .1))

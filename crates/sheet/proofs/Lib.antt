@@ -1,6 +1,7 @@
 -- What callers may rely on, and what the proofs of the code share.
 pub mod Given
 pub mod Groups
+pub mod Order
 pub mod Promises
 mod Sharing
 mod There

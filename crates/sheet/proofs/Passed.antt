@@ -7,7 +7,8 @@ use lib.Dec.{eqb, ltb}
 use borrow.Author.Tests.{ltb-false}
 use Rattle.finite.proofs.Booleans.{clash, neither-l, neither-r}
 use Rattle.sheet.specs.Limits.{max-services, max-cabinets, max-streams}
-use Rattle.sheet.specs.Layout.{Bounded, Inside, eighth-word, services-size, cabinets-size, streams-size}
+use Rattle.sheet.specs.Inner.Within.{Bounded, Inside}
+use Rattle.sheet.specs.Layout.{eighth-word, services-size, cabinets-size, streams-size}
 use Rattle.sheet.specs.Conditions.{beyond-limits, outside, some-block-outside}
 use Rattle.sheet.specs.declared.Sheet.{Sheet}
 

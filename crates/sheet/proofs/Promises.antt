@@ -11,9 +11,10 @@ use Rattle.finite.specs.Below.{only, any-below}
 use Rattle.finite.proofs.Booleans.{clash}
 use Rattle.finite.proofs.Tests.{none-at}
 use Rattle.sheet.specs.Limits.{max-amount}
-use Rattle.sheet.specs.Layout.{Inside, header, service, cabinet, stream}
+use Rattle.sheet.specs.Inner.Within.{Inside}
+use Rattle.sheet.specs.Layout.{header, service, cabinet, stream}
 use Rattle.sheet.specs.Conditions.{beyond-limits, some-block-outside, too-high, cabinet-too-high, some-amount-too-high, wrong-parent, some-parent-wrong, wrong-ends, some-ends-wrong, linked, root-linked}
-use Rattle.sheet.specs.Refusals.{Rule, lowest}
+use Rattle.sheet.specs.Refusals.{Rule, first-applying}
 use Rattle.sheet.specs.Reading.{rules, answered, reading}
 use Rattle.sheet.specs.Records.{there, service-record, cabinet-record, stream-record}
 use Rattle.sheet.specs.Instance.{WellFormed, instance}
@@ -29,11 +30,11 @@ use Rattle.sheet.proofs.Passed.{Counted, counted, inside}
 -- ---- none of the rules applies
 
 -- a rule that is passed: it does not apply, and none after it does
-passed : (x : Rule) (xs : List Rule) → 0 < x .number → lowest (x ∷ xs) ≡ 0 → (x .applies ≡ false) × (lowest xs ≡ 0)
-unfolding lowest
+passed : (x : Rule) (xs : List Rule) → 0 < x .number → first-applying (x ∷ xs) ≡ 0 → (x .applies ≡ false) × (first-applying xs ≡ 0)
+unfolding first-applying
 passed x xs z e = go (x .applies) refl
   where
-    go : (t : Bool) → x .applies ≡ t → (x .applies ≡ false) × (lowest xs ≡ 0)
+    go : (t : Bool) → x .applies ≡ t → (x .applies ≡ false) × (first-applying xs ≡ 0)
     go true q = absurd (let k : x .number ≡ 0 = simp q at e in omega arith)
     go false q = (q, simp q at e)
 
@@ -51,7 +52,7 @@ record Clear (h : Sheet) (bytes : List ℕ) : Type 0 where
   ends : some-ends-wrong h bytes ≡ false
   root : root-linked h bytes ≡ false
 
-clear : (bytes : List ℕ) → lowest (rules bytes) ≡ 0 → Clear (header bytes) bytes
+clear : (bytes : List ℕ) → first-applying (rules bytes) ≡ 0 → Clear (header bytes) bytes
 unfolding rules
 clear bytes e =
     let p1 = passed _ _ (omega arith) e in
@@ -186,9 +187,9 @@ field-at n f d k = rw (lt-ltb d n k)
 -- ---- an accepted sheet
 
 module _ (bytes : List ℕ) (h : Sheet) (a : reading bytes ≡ Accepted h) where
-  zero-refusals : (lowest (rules bytes) ≡ 0) × (h ≡ header bytes)
+  zero-refusals : (first-applying (rules bytes) ≡ 0) × (h ≡ header bytes)
   unfolding reading
-  zero-refusals = is-zero (lowest (rules bytes)) (header bytes) h a
+  zero-refusals = is-zero (first-applying (rules bytes)) (header bytes) h a
 
   clean : Clear (header bytes) bytes
   clean = clear bytes (zero-refusals .0)

@@ -1,8 +1,7 @@
 -- How a sheet is laid out: words, the header, the three blocks, and the records in them.
-use Prim.Native.Nat.{ℕ, _+_, _*_, _≤_, _<_}
+use Prim.Native.Nat.{ℕ, _+_, _*_}
 use mathlib.Core.List.{List}
 use lib.ListN.{getD, drop}
-use Rattle.sheet.specs.Limits.{max-services, max-cabinets, max-streams}
 use Rattle.sheet.specs.declared.Sheet.{Sheet}
 use Rattle.sheet.specs.declared.Service.{Service}
 use Rattle.sheet.specs.declared.Cabinet.{Cabinet}
@@ -67,23 +66,6 @@ cabinets-size h = 14 * h .cabinets
 
 abbrev pub streams-size : Sheet → ℕ
 streams-size h = 6 * h .streams
-
--- counts within their limits, and offsets that are words: no sum of an offset and a size is too large for the code
-pub record Bounded (h : Sheet) : Type 0 where
-  pub services : h .services ≤ max-services
-  pub some-cabinet : 1 ≤ h .cabinets
-  pub cabinets : h .cabinets ≤ max-cabinets
-  pub streams : h .streams ≤ max-streams
-  pub services-at : h .«services_at» < 65536
-  pub cabinets-at : h .«cabinets_at» < 65536
-  pub streams-at : h .«streams_at» < 65536
-
--- every block lies within so many bytes, and there is a cabinet
-pub record Inside (h : Sheet) (len : ℕ) : Type 0 where
-  pub services : h .«services_at» + services-size h ≤ len
-  pub cabinets : h .«cabinets_at» + cabinets-size h ≤ len
-  pub streams : h .«streams_at» + streams-size h ≤ len
-  pub root : 1 ≤ h .cabinets
 
 -- each record of a sheet by its number
 unfoldable pub service : Sheet → List ℕ → ℕ → Service

@@ -1,4 +1,4 @@
--- What a planning sheet is: 01's section "The planning sheet" and the reader's refusals. To be read in this order.
+-- What a planning sheet is: 01's section "The planning sheet" and the reader's refusals. To be read in this order; Inner need not be read.
 pub mod Limits
 pub mod Layout
 pub mod Conditions
@@ -6,3 +6,4 @@ pub mod Refusals
 pub mod Reading
 pub mod Instance
 pub mod Records
+pub mod Inner

@@ -1,10 +1,10 @@
--- What the reader answers: the lowest refusal that applies, or the sheet.
+-- What the reader answers: the first refusal that applies, or the sheet.
 use Prim.Native.Nat.{ℕ, zero, suc}
 use mathlib.Core.List.{List, [], _∷_}
 use lib.ListN.{length}
 use Rattle.sheet.specs.Layout.{header}
 use Rattle.sheet.specs.Conditions.{too-short, beyond-limits, wrong-length, some-block-outside, some-blocks-share, some-amount-too-high, some-parent-wrong, some-ends-wrong, root-linked}
-use Rattle.sheet.specs.Refusals.{Rule, lowest, refusal}
+use Rattle.sheet.specs.Refusals.{Rule, first-applying, refusal, number-of, group-of}
 use Rattle.sheet.specs.declared.Sheet.{Sheet}
 use Rattle.sheet.specs.declared.Reading.{Reading}
 use Rattle.sheet.specs.declared.Reading.the-variants.{Accepted, Refused}
@@ -28,6 +28,29 @@ unfoldable pub answered : ℕ → Sheet → Reading
 answered zero h = Accepted h
 answered (suc n) h = Refused (refusal (suc n))
 
--- a sheet is accepted exactly when none of the reader's refusals applies to it, else refused with the lowest
+-- a sheet is accepted exactly when none of the reader's refusals applies to it, else refused with the first that does
 unfoldable pub reading : List ℕ → Reading
-reading bytes = answered (lowest (rules bytes)) (header bytes)
+reading bytes = answered (first-applying (rules bytes)) (header bytes)
+
+-- an answer's number; 0 where the sheet is accepted
+abbrev pub number : Reading → ℕ
+number (Accepted h) = 0
+number (Refused f) = number-of f
+
+-- its group; 0 where the sheet is accepted
+abbrev pub group : Reading → ℕ
+group (Accepted h) = 0
+group (Refused f) = group-of f
+
+-- r, s and q of an accepted sheet; 0 where it is refused
+abbrev pub services : Reading → ℕ
+services (Accepted h) = h .services
+services (Refused f) = 0
+
+abbrev pub cabinets : Reading → ℕ
+cabinets (Accepted h) = h .cabinets
+cabinets (Refused f) = 0
+
+abbrev pub streams : Reading → ℕ
+streams (Accepted h) = h .streams
+streams (Refused f) = 0

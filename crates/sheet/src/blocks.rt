@@ -1,7 +1,7 @@
 // Where the three blocks lie: the conditions of refusals 4 and 5.
 ghost use mathlib.Core.Path.{_≡_};
 ghost use Prim.Native.Nat.{_+_, _<_, _^_};
-ghost use Rattle.sheet.specs.Layout.{Bounded};
+ghost use Rattle.sheet.specs.Inner.Within.{Bounded};
 ghost use Rattle.sheet.specs.Conditions.{outside, some-block-outside, share, some-blocks-share};
 use crate::Sheet;
 

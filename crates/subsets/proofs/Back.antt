@@ -6,13 +6,15 @@ use mathlib.Core.Bool.{Bool, true, false}
 use lib.Dec.{eqb}
 use borrow.Author.Tests.{eq-eqb}
 use Rattle.subsets.specs.Sets.{has}
-use Rattle.subsets.specs.Costs.{Cost, some, _⊕_}
-use Rattle.subsets.specs.Tree.{Falls, under, part, before}
-use Rattle.subsets.specs.Net.{Net}
-use Rattle.subsets.specs.Join.{joined}
-use Rattle.subsets.specs.Splits.{least-subset, split-charge}
-use Rattle.subsets.specs.Rows.{child, row-at, choice-at}
-use Rattle.subsets.specs.Back.{stays, walk, descent, seat, Wins, Meets}
+use Rattle.subsets.specs.Costs.{Cost, some}
+use Rattle.subsets.specs.Inner.Totals.{_⊕_}
+use Rattle.subsets.specs.Inner.Net.{Falls}
+use Rattle.subsets.specs.Tree.{under, part, before}
+use Rattle.subsets.specs.Inner.Net.{Net}
+use Rattle.subsets.specs.Inner.Join.{joined}
+use Rattle.subsets.specs.Inner.Splits.{least-subset, split-charge}
+use Rattle.subsets.specs.Inner.Rows.{child, row-at, choice-at}
+use Rattle.subsets.specs.Inner.Back.{stays, walk, descent, seat, Wins, Meets}
 use Rattle.subsets.proofs.Costs.{⊕-parts}
 use Rattle.subsets.proofs.Sets.{Sub, sub-and, sub-le}
 use Rattle.subsets.proofs.Subsets.{winner-sub, winner-wins}

@@ -7,12 +7,14 @@ use mathlib.Core.Bool.{Bool, true, false, _&&_, not}
 use lib.Dec.{eqb}
 use Rattle.finite.specs.Below.{only, sum-below}
 use Rattle.finite.proofs.Sums.{sum-le, sum-add, sum-one, only-le, only-both-r, only-not}
-use Rattle.subsets.specs.Costs.{Cost, some, _⊕_, charged, total-below}
-use Rattle.subsets.specs.Tree.{Falls, under, before}
-use Rattle.subsets.specs.Net.{Net, on, below, charge, Sits}
-use Rattle.subsets.specs.Join.{joined}
-use Rattle.subsets.specs.Splits.{split-charge}
-use Rattle.subsets.specs.Rows.{child, row-at}
+use Rattle.subsets.specs.Costs.{Cost, some}
+use Rattle.subsets.specs.Inner.Totals.{_⊕_, charged, total-below}
+use Rattle.subsets.specs.Inner.Net.{Falls}
+use Rattle.subsets.specs.Tree.{under, before}
+use Rattle.subsets.specs.Inner.Net.{Net, on, below, charge, Sits}
+use Rattle.subsets.specs.Inner.Join.{joined}
+use Rattle.subsets.specs.Inner.Splits.{split-charge}
+use Rattle.subsets.specs.Inner.Rows.{child, row-at}
 use Rattle.subsets.proofs.Costs.{⊕-parts}
 use Rattle.subsets.proofs.Sets.{Sub, keep-lt, sub-le}
 use Rattle.subsets.proofs.Rows.{child-parent, row-least, row-before, row-under}

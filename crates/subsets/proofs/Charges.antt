@@ -5,9 +5,10 @@ use Prim.Native.Nat.{ℕ, _^_, _<_}
 use lib.Dec.{eqb}
 use borrow.Author.Tests.{eqb-true, eq-eqb}
 use Rattle.subsets.specs.Sets.{has}
-use Rattle.subsets.specs.Costs.{Cost, none, some, _⊕_, Le, charged}
+use Rattle.subsets.specs.Costs.{Cost, none, some}
+use Rattle.subsets.specs.Inner.Totals.{_⊕_, Le, charged}
 use Rattle.subsets.specs.Tree.{under}
-use Rattle.subsets.specs.Net.{Net, on, below, charge, Sits, Least}
+use Rattle.subsets.specs.Inner.Net.{Net, on, below, charge, Sits, Least}
 use Rattle.subsets.proofs.Costs.{total-ext, total-zero, total-one, ⊕-zero, Le-refl, Le-antisym, Le-none}
 use Rattle.subsets.proofs.Sets.{keep-ext, keep-is}
 

@@ -8,7 +8,8 @@ use mathlib.Core.Logic.{_⊎_, inl, inr}
 use native.Mathlib.Decide.{decLt}
 use lib.Dec.{eqb}
 use borrow.Author.Tests.{eqb-true, eqb-false, ne-eqb}
-use Rattle.subsets.specs.Costs.{Cost, none, some, _⊕_, Le, lesser, least-below, total-below, charged}
+use Rattle.subsets.specs.Costs.{Cost, none, some, lesser, least-below}
+use Rattle.subsets.specs.Inner.Totals.{_⊕_, Le, total-below, charged}
 
 -- the grouping of a sum does not matter
 pub ⊕-assoc : (x y z : Cost) → (x ⊕ y) ⊕ z ≡ x ⊕ (y ⊕ z)

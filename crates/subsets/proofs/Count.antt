@@ -11,11 +11,13 @@ use Rattle.finite.specs.Below.{only, sum-below}
 use Rattle.finite.proofs.Booleans.{clash, same-test}
 use Rattle.finite.proofs.Sums.{sum-ext, sum-zero, sum-one, sum-swap, sum-mono, only-le, only-both-l, only-ext}
 use Rattle.subsets.specs.Sets.{subset}
-use Rattle.subsets.specs.Costs.{Cost, none, some, Le, is-some}
-use Rattle.subsets.specs.Tree.{Falls, before}
-use Rattle.subsets.specs.Net.{Net, Least}
-use Rattle.subsets.specs.Rows.{child}
-use Rattle.subsets.specs.Count.{Placed, pairs, triples, flagged, weighed, joins}
+use Rattle.subsets.specs.Costs.{Cost, none, some, is-some}
+use Rattle.subsets.specs.Inner.Totals.{Le}
+use Rattle.subsets.specs.Inner.Net.{Falls}
+use Rattle.subsets.specs.Tree.{before}
+use Rattle.subsets.specs.Inner.Net.{Net, Least}
+use Rattle.subsets.specs.Inner.Rows.{child}
+use Rattle.subsets.specs.Inner.Count.{Placed, pairs, triples, flagged, weighed, joins}
 use Rattle.subsets.proofs.Loop.{subset-count, three}
 use Rattle.subsets.proofs.Rows.{row-before}
 

@@ -8,8 +8,10 @@ use borrow.Author.Tests.{leb-true, leb-false, le-leb, lt-leb}
 use Rattle.finite.specs.Below.{only}
 use Rattle.finite.proofs.Booleans.{both-l, both-r}
 use Rattle.finite.proofs.Sums.{only-le}
-use Rattle.subsets.specs.Costs.{Cost, none, some, _⊕_, lesser, provided, is-some}
-use Rattle.subsets.specs.Figures.{limit, nothing, is-cost, read, figure, capped, lesser-figure, weighing}
+use Rattle.subsets.specs.Costs.{Cost, none, some, lesser, provided, is-some}
+use Rattle.subsets.specs.Inner.Totals.{_⊕_}
+use Rattle.subsets.specs.Figures.{limit, is-cost, read, capped, lesser-figure, weighing}
+use Rattle.subsets.specs.Inner.Encoded.{nothing, figure}
 use Rattle.subsets.proofs.Costs.{lesser-none, ⊕-none}
 
 -- a number up to the limit is a cost

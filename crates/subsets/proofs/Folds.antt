@@ -12,12 +12,14 @@ use lib.ListN.{getD}
 use borrow.Author.Tests.{eqb-true, eqb-false, eq-eqb, ne-eqb, ltb-true, ltb-false}
 use Rattle.finite.specs.Below.{only, sum-below}
 use Rattle.finite.proofs.Sums.{sum-ext, sum-more, sum-le, only-le}
-use Rattle.subsets.specs.Sets.{within}
-use Rattle.subsets.specs.Costs.{Cost, none, some, _⊕_, Le, lesser, provided, is-some}
-use Rattle.subsets.specs.Figures.{limit, nothing, is-cost, read, figure, capped, lesser-figure, weighing}
-use Rattle.subsets.specs.Splits.{split-charge, least-split, winner}
-use Rattle.subsets.specs.Count.{pairs}
-use Rattle.subsets.specs.Folds.{tried, scan, start, best-split, counted-below}
+use Rattle.subsets.specs.Inner.Masks.{within}
+use Rattle.subsets.specs.Costs.{Cost, none, some, lesser, provided, is-some}
+use Rattle.subsets.specs.Inner.Totals.{_⊕_, Le}
+use Rattle.subsets.specs.Figures.{limit, is-cost, read, capped, lesser-figure, weighing}
+use Rattle.subsets.specs.Inner.Encoded.{nothing, figure}
+use Rattle.subsets.specs.Inner.Splits.{split-charge, least-split, winner}
+use Rattle.subsets.specs.Inner.Count.{pairs}
+use Rattle.subsets.specs.Inner.Folds.{tried, scan, start, best-split, counted-below}
 use Rattle.subsets.specs.declared.Best.{Best}
 use Rattle.subsets.proofs.Costs.{Le-trans, lesser-l, lesser-r}
 use Rattle.subsets.proofs.Figures.{read-cost, read-none, read-some, read-is, read-sum, read-weighing, figure-read}

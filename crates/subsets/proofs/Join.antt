@@ -6,12 +6,15 @@ use native.Mathlib.Omega.{arith}
 use lib.Dec.{eqb}
 use borrow.Author.Tests.{eqb-true, ne-eqb}
 use Rattle.finite.proofs.Booleans.{clash, both-l, both-r, either-l, either-r}
-use Rattle.subsets.specs.Sets.{has, keep}
-use Rattle.subsets.specs.Costs.{Cost, some, _⊕_, Le, charged, total-below}
-use Rattle.subsets.specs.Tree.{Falls, under}
-use Rattle.subsets.specs.Net.{Net, on, below, charge, Sits, Least}
-use Rattle.subsets.specs.Join.{joined, Beside}
-use Rattle.subsets.specs.Splits.{split-charge, least-split}
+use Rattle.subsets.specs.Sets.{has}
+use Rattle.subsets.specs.Inner.Masks.{keep}
+use Rattle.subsets.specs.Costs.{Cost, some}
+use Rattle.subsets.specs.Inner.Totals.{_⊕_, Le, charged, total-below}
+use Rattle.subsets.specs.Inner.Net.{Falls}
+use Rattle.subsets.specs.Tree.{under}
+use Rattle.subsets.specs.Inner.Net.{Net, on, below, charge, Sits, Least}
+use Rattle.subsets.specs.Inner.Join.{joined, Beside}
+use Rattle.subsets.specs.Inner.Splits.{split-charge, least-split}
 use Rattle.subsets.proofs.Costs.{total-ext, total-add, total-one, ⊕-assoc, ⊕-left-comm, ⊕-zero, zero-⊕, Le-refl, Le-trans, Le-⊕, ⊕-parts}
 use Rattle.subsets.proofs.Sets.{Sub, keep-ext, keep-keep, keep-is, keep-rest, has-keep, keep-lt, sub-has, sub-keep, sub-le, has-minus}
 use Rattle.subsets.proofs.Subsets.{subset-low, subset-met}

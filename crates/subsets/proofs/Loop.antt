@@ -13,8 +13,9 @@ use borrow.Author.Tests.{eqb-true, eqb-false, eq-eqb, ne-eqb}
 use Rattle.finite.specs.Below.{only, sum-below}
 use Rattle.finite.proofs.Booleans.{both, both-l, both-r, same-test}
 use Rattle.finite.proofs.Sums.{sum-ext, sum-add, sum-mul, sum-first, sum-two}
-use Rattle.subsets.specs.Sets.{has, within, size, subset}
-use Rattle.subsets.specs.Loop.{falling, turns}
+use Rattle.subsets.specs.Sets.{has, subset}
+use Rattle.subsets.specs.Inner.Masks.{within, size}
+use Rattle.subsets.specs.Inner.Loop.{falling, turns}
 use Rattle.subsets.proofs.Sets.{Sub, sub-and, subset-within}
 
 -- ---- one step

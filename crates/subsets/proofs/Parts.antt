@@ -9,9 +9,10 @@ use borrow.Author.Tests.{eqb-true, eqb-false, eq-eqb, lt-ltb, ltb-true}
 use Rattle.finite.specs.Below.{any-below}
 use Rattle.finite.proofs.Booleans.{both, both-l, both-r, either, is-false, same-test}
 use Rattle.finite.proofs.Tests.{any-in, any-at}
-use Rattle.subsets.specs.Tree.{Falls, under, part, before}
-use Rattle.subsets.specs.Net.{Net}
-use Rattle.subsets.specs.Join.{joined, Beside}
+use Rattle.subsets.specs.Inner.Net.{Falls}
+use Rattle.subsets.specs.Tree.{under, part, before}
+use Rattle.subsets.specs.Inner.Net.{Net}
+use Rattle.subsets.specs.Inner.Join.{joined, Beside}
 use Rattle.subsets.proofs.Tree.{under-refl, under-trans, under-up, under-le, under-cases, under-line, under-ind, under-root}
 
 -- d is p, or under a child of p below k

@@ -6,7 +6,8 @@ use mathlib.Core.Path.{_≡_, refl, sym, ap, ap₂, _∙_}
 use mathlib.Core.Bool.{Bool, true, false, _&&_}
 use Rattle.finite.specs.Below.{_⇒_, only, sum-below, all-below}
 use Rattle.finite.proofs.Booleans.{clash}
-use Rattle.subsets.specs.Costs.{Cost, some, _⊕_, total-below, charged, provided}
+use Rattle.subsets.specs.Costs.{Cost, some, provided}
+use Rattle.subsets.specs.Inner.Totals.{_⊕_, total-below, charged}
 
 -- two costs that hang on tests, added
 pub provided-add : (a b : Bool) (x y : ℕ) → provided a x ⊕ provided b y ≡ provided (a && b) (x + y)

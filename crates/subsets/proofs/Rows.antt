@@ -7,10 +7,11 @@ use lib.Dec.{eqb, ltb}
 use borrow.Author.Tests.{eqb-true, eq-eqb, lt-ltb, ltb-true}
 use Rattle.finite.proofs.Booleans.{both, both-l, both-r}
 use Rattle.subsets.specs.Costs.{Cost}
-use Rattle.subsets.specs.Tree.{Falls, under, part, before}
-use Rattle.subsets.specs.Net.{Net, Least}
-use Rattle.subsets.specs.Splits.{split-charge, least-split}
-use Rattle.subsets.specs.Rows.{child, grown, whole, row-at}
+use Rattle.subsets.specs.Inner.Net.{Falls}
+use Rattle.subsets.specs.Tree.{under, part, before}
+use Rattle.subsets.specs.Inner.Net.{Net, Least}
+use Rattle.subsets.specs.Inner.Splits.{split-charge, least-split}
+use Rattle.subsets.specs.Inner.Rows.{child, grown, whole, row-at}
 use Rattle.subsets.proofs.Subsets.{subset-ext}
 use Rattle.subsets.proofs.Charges.{Least-ext, base}
 use Rattle.subsets.proofs.Join.{join}

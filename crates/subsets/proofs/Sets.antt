@@ -13,7 +13,8 @@ use Rattle.finite.specs.Below.{only, _⇒_}
 use Rattle.finite.proofs.Booleans.{clash, both-l, implies, implied, same-test}
 use Rattle.finite.proofs.Sums.{only-le, only-not}
 use Rattle.finite.proofs.Tests.{all-in, all-at}
-use Rattle.subsets.specs.Sets.{has, full, keep, subset, within}
+use Rattle.subsets.specs.Sets.{has, subset}
+use Rattle.subsets.specs.Inner.Masks.{full, keep, within}
 
 -- ---- the digits of what a test keeps
 

@@ -7,12 +7,13 @@ use lib.Dec.{eqb, leb}
 use lib.ListN.{getD}
 use Rattle.finite.specs.Below.{only, sum-below, all-below, _⇒_}
 use Rattle.subsets.specs.Sets.{has, subset}
-use Rattle.subsets.specs.Costs.{none, some, _⊕_, lesser, least-below, provided}
-use Rattle.subsets.specs.Net.{Net}
-use Rattle.subsets.specs.Splits.{least-subset, largest-below, winner}
-use Rattle.subsets.specs.Rows.{grown, whole, row-at, choice-at}
-use Rattle.subsets.specs.Count.{pairs, triples, weighed}
-use Rattle.subsets.specs.Back.{walk, descent, seat}
+use Rattle.subsets.specs.Costs.{none, some, lesser, least-below, provided}
+use Rattle.subsets.specs.Inner.Totals.{_⊕_}
+use Rattle.subsets.specs.Inner.Net.{Net}
+use Rattle.subsets.specs.Inner.Splits.{least-subset, largest-below, winner}
+use Rattle.subsets.specs.Inner.Rows.{grown, whole, row-at, choice-at}
+use Rattle.subsets.specs.Inner.Count.{pairs, triples, weighed}
+use Rattle.subsets.specs.Inner.Back.{walk, descent, seat}
 
 -- each service takes room 2 on a node
 abbrev room : ℕ → ℕ

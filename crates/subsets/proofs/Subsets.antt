@@ -8,9 +8,10 @@ use lib.Dec.{eqb}
 use lib.Bits.{bitAnd, and-zero-l}
 use borrow.Author.Tests.{eqb-true, eqb-false, eq-eqb}
 use Rattle.finite.proofs.Booleans.{clash, both, both-l, both-r, is-false}
-use Rattle.subsets.specs.Sets.{within}
-use Rattle.subsets.specs.Costs.{Cost, none, some, Le, least-below}
-use Rattle.subsets.specs.Splits.{least-subset, largest-below, same-cost, winner}
+use Rattle.subsets.specs.Inner.Masks.{within}
+use Rattle.subsets.specs.Costs.{Cost, none, some, least-below}
+use Rattle.subsets.specs.Inner.Totals.{Le}
+use Rattle.subsets.specs.Inner.Splits.{least-subset, largest-below, same-cost, winner}
 use Rattle.subsets.proofs.Costs.{Le-antisym, Le-none, least-low, least-met}
 use Rattle.subsets.proofs.Sets.{Sub, sub-le}
 

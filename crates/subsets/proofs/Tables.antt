@@ -7,14 +7,16 @@ use mathlib.Core.Path.{_≡_, sym, ap, ap₂, _∙_}
 use mathlib.Core.Bool.{true}
 use mathlib.Core.List.{List}
 use lib.ListN.{getD}
-use Rattle.subsets.specs.Costs.{Cost, some, _⊕_, is-some}
-use Rattle.subsets.specs.Figures.{limit, read, figure}
-use Rattle.subsets.specs.Tree.{Falls}
-use Rattle.subsets.specs.Net.{Net}
-use Rattle.subsets.specs.Splits.{least-subset, split-charge}
-use Rattle.subsets.specs.Rows.{child, row-at, choice-at}
-use Rattle.subsets.specs.Count.{pairs, flagged}
-use Rattle.subsets.specs.Folds.{best-split, counted-below, Holds}
+use Rattle.subsets.specs.Costs.{Cost, some, is-some}
+use Rattle.subsets.specs.Inner.Totals.{_⊕_}
+use Rattle.subsets.specs.Figures.{limit, read}
+use Rattle.subsets.specs.Inner.Encoded.{figure}
+use Rattle.subsets.specs.Inner.Net.{Falls}
+use Rattle.subsets.specs.Inner.Net.{Net}
+use Rattle.subsets.specs.Inner.Splits.{least-subset, split-charge}
+use Rattle.subsets.specs.Inner.Rows.{child, row-at, choice-at}
+use Rattle.subsets.specs.Inner.Count.{pairs, flagged}
+use Rattle.subsets.specs.Inner.Folds.{best-split, counted-below, Holds}
 use Rattle.subsets.proofs.Sets.{Sub, sub-le}
 use Rattle.subsets.proofs.Subsets.{subset-ext, winner-ext}
 use Rattle.subsets.proofs.Figures.{read-figure}

@@ -9,7 +9,8 @@ use native.Mathlib.Omega.{arith}
 use lib.Dec.{eqb}
 use borrow.Author.Tests.{eqb-true, eq-eqb}
 use Rattle.finite.proofs.Booleans.{either, either-l, either-r, is-false, same-test}
-use Rattle.subsets.specs.Tree.{Falls, step, climb, under}
+use Rattle.subsets.specs.Inner.Net.{Falls}
+use Rattle.subsets.specs.Tree.{step, climb, under}
 
 module _ (p : ℕ → ℕ) where
   climb-more : (k c d : ℕ) → climb p k c d ≡ true → climb p (suc k) c d ≡ true

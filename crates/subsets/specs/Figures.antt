@@ -10,10 +10,6 @@ use Rattle.subsets.specs.declared.Weighed.{Weighed}
 abbrev pub limit : ℕ
 limit = 1000000000000000
 
--- the figure that stands for 'none' where no other is given
-abbrev pub nothing : ℕ
-nothing = 1000000000000001
-
 -- the figure n is a cost
 abbrev pub is-cost : ℕ → Bool
 is-cost n = leb n limit
@@ -21,11 +17,6 @@ is-cost n = leb n limit
 -- what the figure n says: a number above the limit is taken as 'none'
 unfoldable pub read : ℕ → Cost
 read n = provided (is-cost n) n
-
--- the figure for a cost
-unfoldable pub figure : Cost → ℕ
-figure none = nothing
-figure (some n) = n
 
 -- a cost that no figure can hold is none
 unfoldable pub capped : Cost → Cost

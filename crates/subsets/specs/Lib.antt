@@ -1,14 +1,7 @@
--- Sets, costs, trees and charges: what the planner's mathematics is about, in the order to read it. Nothing here knows of sheets.
+-- Sets, costs, trees, the weighing of one split and the powers of three. Nothing here knows of sheets; Inner need not be read.
 pub mod Sets
-pub mod Loop
 pub mod Costs
+pub mod Tree
 pub mod Figures
 pub mod Powers
-pub mod Tree
-pub mod Net
-pub mod Splits
-pub mod Join
-pub mod Rows
-pub mod Count
-pub mod Folds
-pub mod Back
+pub mod Inner

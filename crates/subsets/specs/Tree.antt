@@ -1,12 +1,8 @@
 -- A rooted tree given by each node's parent, where a parent has a smaller number than its child and 0 is the root.
-use Prim.Native.Nat.{ℕ, zero, suc, _<_}
+use Prim.Native.Nat.{ℕ, zero, suc}
 use mathlib.Core.Bool.{Bool, _&&_, _||_}
 use lib.Dec.{eqb, ltb}
 use Rattle.finite.specs.Below.{any-below}
-
--- every node but the root has a parent of smaller number
-abbrev pub Falls : (ℕ → ℕ) → Type 0
-Falls parent = (d : ℕ) → 0 < d → parent d < d
 
 -- one step up from d; from the root there is none
 abbrev pub step : (ℕ → ℕ) → ℕ → ℕ

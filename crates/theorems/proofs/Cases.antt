@@ -3,7 +3,7 @@ use mathlib.Core.Path.{refl}
 use Rattle.finite.specs.Below.{_⇒_, only, sum-below, all-below, any-below, sum-over}
 use Rattle.sheet.specs.Layout.{header, service-in, cabinet-in, stream-in, service, cabinet, stream}
 use Rattle.sheet.specs.Conditions.{beyond-limits, outside, some-block-outside, holds, share, some-blocks-share, cabinet-too-high, some-amount-too-high, wrong-parent, some-parent-wrong, wrong-ends, some-ends-wrong, linked, root-linked}
-use Rattle.sheet.specs.Refusals.{refusal, lowest}
+use Rattle.sheet.specs.Refusals.{refusal, first-applying}
 use Rattle.sheet.specs.Reading as reader
 use Rattle.sheet.specs.Instance.{instance}
 use Rattle.embedding.specs.Definition1.{member}
@@ -18,6 +18,6 @@ use Rattle.checker.specs.Check as checks
 use Rattle.theorems.specs.Cases.{AllHold, cases}
 
 pub cases-hold : AllHold cases
-unfolding _⇒_ only sum-below all-below any-below sum-over header service-in cabinet-in stream-in service cabinet stream beyond-limits outside some-block-outside holds share some-blocks-share cabinet-too-high some-amount-too-high wrong-parent some-parent-wrong wrong-ends some-ends-wrong linked root-linked refusal lowest reader.rules reader.answered reader.reading instance member up down lower by-way edge-price path-within path routes fits link-fits fee weight carried link-keeps in-range cabinets-keep links-keep cabinets-cost links-cost plan-cost checks.rules checks.answered checks.plan-checked checks.checked-after checks.checked lesser least-below provided has subset climb under part stands keeps placeable weighed planned digit valid worth cheapest
+unfolding _⇒_ only sum-below all-below any-below sum-over header service-in cabinet-in stream-in service cabinet stream beyond-limits outside some-block-outside holds share some-blocks-share cabinet-too-high some-amount-too-high wrong-parent some-parent-wrong wrong-ends some-ends-wrong linked root-linked refusal first-applying reader.rules reader.answered reader.reading instance member up down lower by-way edge-price path-within path routes fits link-fits fee weight carried link-keeps in-range cabinets-keep links-keep cabinets-cost links-cost plan-cost checks.rules checks.answered checks.plan-checked checks.checked-after checks.checked lesser least-below provided has subset climb under part stands keeps placeable weighed planned digit valid worth cheapest
 cases-hold =
     (refl, (refl, (refl, (refl, (refl, (refl, (refl, (refl, (refl, (refl, (refl, (refl, (refl, (refl, tt))))))))))))))

@@ -1,98 +1,163 @@
--- The demands, each as one theorem whose statement uses definitions alone. A reader needs the specs/ of the crates and this page.
+-- The demands, each as one theorem whose statement uses definitions alone. A reader needs this page and the specs/ of the crates, without Inner.
+--
+-- The definitions are those that the code's contracts name, as equalities for every input:
+--   `reading`                               what `sheet::read` answers          crates/sheet/src/lib.rt
+--   `checked`                               what `checker::check` answers       crates/checker/src/lib.rt
+--   `planned`, `OutputAfter`, `table-after` what `planner::plan` answers, and what output and tables hold after it
+--                                                                               crates/planner/src/lib.rt
+-- and the C entry points `gz_read`, `gz_check` and `gz_plan` have the same clauses in crates/gazrieksne/src. What the program prints is
+-- `Printed` in crates/report/specs/Text.antt, by the contract of `report::respond`.
 use Prim.Native.Nat.{ℕ, _-_, _*_, _^_, _≤_, _<_}
 use mathlib.Core.Logic.{_↔_, _⊎_, inl, inr}
-use mathlib.Core.Path.{_≡_, refl, sym, subst}
+use mathlib.Core.Path.{_≡_, refl, sym, _∙_, subst}
 use mathlib.Core.Bool.{true}
 use mathlib.Core.List.{List}
 use lib.ListN.{length, take}
+use Rattle.sheet.specs.Reading as reader
 use Rattle.sheet.specs.Reading.{reading}
-use Rattle.sheet.specs.Instance.{Instance, instance}
-use Rattle.sheet.specs.Refusals.{refusal, number-of}
+use Rattle.sheet.specs.Instance.{instance}
+use Rattle.sheet.specs.Refusals.{refusal, number-of, giving, first-of, in-order}
 use Rattle.sheet.specs.declared.Sheet.{Sheet}
 use Rattle.sheet.specs.declared.Refusal.{Refusal}
 use Rattle.sheet.specs.declared.Reading.the-variants as readings
 use Rattle.sheet.proofs.Promises.{well-formed}
-use Rattle.embedding.specs.Definition1.{Feasible, cost}
+use Rattle.sheet.proofs.Order.{given-first, reading-first, reading-order}
+use Rattle.embedding.specs.Definition1.{Feasible}
 use Rattle.embedding.specs.Limits.{Limits}
 use Rattle.embedding.specs.Road.{road}
-use Rattle.embedding.specs.Plan.{valid, plan-cost}
 use Rattle.embedding.specs.Splits.{weighed}
-use Rattle.embedding.proofs.Theorems.{plan-iff-mapping}
+use Rattle.embedding.proofs.Theorems.{plan-iff-mapping, cheapest-mapping}
+use Rattle.checker.specs.Check as check
 use Rattle.checker.specs.Check.{place, checked}
+use Rattle.checker.specs.Answers as checks
 use Rattle.checker.specs.declared.Checked.{Checked}
-use Rattle.checker.specs.declared.Checked.the-variants.{Accepted}
-use Rattle.checker.specs.declared.Checked.the-variants as checks
-use Rattle.checker.proofs.Answers.{accepted-iff, right-group, cost-low}
-use Rattle.planner.specs.Answers.{entries, planned}
+use Rattle.checker.specs.declared.Checked.the-variants as answers
+use Rattle.checker.proofs.Answers.{accepted-iff, right-group, cost-low, check-number, check-first, check-order}
+use Rattle.planner.specs.Answers as plan
+use Rattle.planner.specs.Answers.{Enough, planned}
 use Rattle.planner.specs.Lent.{table-after, OutputAfter}
+use Rattle.planner.specs.declared.Planned.{Planned}
 use Rattle.planner.specs.declared.Planned.the-variants.{Plan, Refused}
+use Rattle.planner.proofs.Order.{plan-first, plan-order}
 use Rattle.theorems.proofs.Planning as planning
-use Rattle.theorems.specs.Given.{Given}
+use Rattle.theorems.specs.Promised.{Given, Maps, NoneCheaper, NoMapping, Best, Left}
 
--- Demand 1. Any bytes, with any memory lent, get a plan or one refusal from 1 to 12; it stands in the group of its number, and only 12 has a count.
+-- ---- Demand 1
+
+-- Any bytes, with any memory lent, get a plan or one refusal from 1 to 12; it stands in the group of its number, and only 12 has a count.
+-- (`planner::plan`, clause `answer`.)
 pub demand-1 :
     (bytes : List ℕ) (output costs choices : ℕ) →
     ((k : ℕ) × (n : ℕ) × (planned bytes output costs choices ≡ Plan k n))
     ⊎ ((f : Refusal) × (n : ℕ) × (planned bytes output costs choices ≡ Refused f n) × Given 1 12 f × ((number-of f ≡ 12 → ⊥) → n ≡ 0))
 demand-1 = planning.answered
 
--- After every refusal but 12 the memory lent is as it was; the output also after 12.
+-- After a plan and after 12 the first s × 2^r entries of both tables are 0 and all others stay; after any other refusal both tables are as they
+-- were. After a plan the output stays from place r on, after any refusal all of it. (`planner::plan`, clauses `output`, `costs`, `choices`.)
 pub demand-1-memory :
-    (I : Instance) (f : Refusal) (n : ℕ) →
-    ((output output' : List ℕ) → OutputAfter I (Refused f n) output output' → output' ≡ output)
-    × ((number-of f ≡ 12 → ⊥) → (table : List ℕ) → table-after I (Refused f n) table ≡ table)
-demand-1-memory I f n = (λ output output' e. e, λ h table. planning.untouched I f n h table)
+    (bytes output costs choices output' costs' choices' : List ℕ) (a : Planned) →
+    a ≡ planned bytes (length output) (length costs) (length choices) →
+    OutputAfter (instance bytes) a output output' →
+    costs' ≡ table-after (instance bytes) a costs →
+    choices' ≡ table-after (instance bytes) a choices →
+    Left (instance bytes) a output costs choices output' costs' choices'
+demand-1-memory = planning.left
 
--- Demand 1, of the check. Any bytes and any plan get an answer: a cost below 10^15, or a refusal in the group of its number.
+-- Any bytes and any plan get an answer of the check: a cost below 10^15, or one refusal from 1 to 9 or from 13 to 16 in the group of its number.
+-- (`checker::check`.)
 pub demand-1-check :
     (bytes plan : List ℕ) →
-    ((k : ℕ) × (checked bytes plan ≡ Accepted k) × (k < 10 ^ 15))
-    ⊎ ((f : Refusal) × (checked bytes plan ≡ checks.Refused f) × (f ≡ refusal (number-of f)))
+    ((k : ℕ) × (checked bytes plan ≡ answers.Accepted k) × (k < 10 ^ 15))
+    ⊎ ((f : Refusal) × (checked bytes plan ≡ answers.Refused f) × (Given 1 9 f ⊎ Given 13 16 f))
 demand-1-check bytes plan = go (checked bytes plan) refl
   where
-    go : (r : Checked) → checked bytes plan ≡ r →
-        ((k : ℕ) × (checked bytes plan ≡ Accepted k) × (k < 10 ^ 15))
-        ⊎ ((f : Refusal) × (checked bytes plan ≡ checks.Refused f) × (f ≡ refusal (number-of f)))
-    go (checks.Accepted k) e = inl (k, e, cost-low bytes plan k e)
-    go (checks.Refused f) e = inr (f, e, right-group bytes plan f e)
+    bounds : (f : Refusal) → f ≡ refusal (number-of f) → ((1 ≤ number-of f) × (number-of f ≤ 9)) ⊎ ((13 ≤ number-of f) × (number-of f ≤ 16)) → Given 1 9 f ⊎ Given 13 16 f
+    bounds f g (inl b) = inl (record { grouped = g; least = b .0; most = b .1 })
+    bounds f g (inr b) = inr (record { grouped = g; least = b .0; most = b .1 })
 
--- Demand 2. On every sheet that the reader accepts, the check accepts a plan with a place for each service at cost k exactly when
--- some choice of paths makes a mapping over that plan that is feasible by Definition 1, keeps the limits, and costs k.
+    go : (r : Checked) → checked bytes plan ≡ r →
+        ((k : ℕ) × (checked bytes plan ≡ answers.Accepted k) × (k < 10 ^ 15))
+        ⊎ ((f : Refusal) × (checked bytes plan ≡ answers.Refused f) × (Given 1 9 f ⊎ Given 13 16 f))
+    go (answers.Accepted k) e = inl (k, e, cost-low bytes plan k e)
+    go (answers.Refused f) e = inr (f, e, bounds f (right-group bytes plan f e) (check-number bytes plan f e))
+
+-- ---- The order of giving
+
+-- The rules of each call stand in the order of giving, and the number given is the first in that order of which a rule applies.
+-- (`sheet::read`.)
+pub read-gives :
+    (bytes : List ℕ) → (in-order giving (reader.rules bytes) ≡ true) × (reader.number (reading bytes) ≡ first-of giving (reader.rules bytes))
+read-gives bytes = (reading-order bytes, reading-first bytes ∙ given-first (reader.rules bytes) (reading-order bytes))
+
+-- (`checker::check`.)
+pub check-gives :
+    (bytes plan : List ℕ) →
+    (in-order giving (check.all-rules bytes plan) ≡ true) × (checks.number (checked bytes plan) ≡ first-of giving (check.all-rules bytes plan))
+check-gives bytes plan =
+    (check-order bytes plan, check-first bytes plan ∙ given-first (check.all-rules bytes plan) (check-order bytes plan))
+
+-- (`planner::plan`, clause `answer`.)
+pub plan-gives :
+    (bytes : List ℕ) (output costs choices : ℕ) →
+    (in-order giving (plan.all-rules bytes output costs choices) ≡ true)
+    × (plan.number (planned bytes output costs choices) ≡ first-of giving (plan.all-rules bytes output costs choices))
+plan-gives bytes output costs choices =
+    let o = plan-order bytes output costs choices in
+    (o, plan-first bytes output costs choices ∙ given-first (plan.all-rules bytes output costs choices) o)
+
+-- ---- Demand 2
+
+-- On every sheet that the reader accepts, the check accepts a plan of any length at cost k exactly when it has a place for each service and,
+-- with some paths, is a mapping that is feasible by Definition 1, keeps the limits, and costs k. (`checker::check`.)
 pub demand-2 :
     (bytes : List ℕ) (h : Sheet) → reading bytes ≡ readings.Accepted h →
-    (plan : List ℕ) → length plan ≡ instance bytes .r → (k : ℕ) →
-    (checked bytes plan ≡ Accepted k)
-    ↔ ((ρ : ℕ → List ℕ)
-    × Feasible (road (instance bytes)) (place plan) ρ
-    × Limits (instance bytes) (place plan) ρ
-    × (cost (road (instance bytes)) (place plan) ρ ≡ k))
-demand-2 bytes h reads plan places k =
-    let valid-at-k = accepted-iff bytes h reads plan k in
+    (plan : List ℕ) (k : ℕ) →
+    (checked bytes plan ≡ answers.Accepted k) ↔ ((length plan ≡ instance bytes .r) × Maps (instance bytes) (place plan) k)
+demand-2 bytes h reads plan k =
+    let accepted = accepted-iff bytes h reads plan k in
     let mapping = plan-iff-mapping (instance bytes) (well-formed bytes h reads) (place plan) k in
-    (λ e. mapping .0 (valid-at-k .0 e .1, valid-at-k .0 e .2), λ m. valid-at-k .1 (places, mapping .1 m .0, mapping .1 m .1))
+    (λ e. let v = accepted .0 e in (v .0, mapping .0 (v .1, v .2)), λ m. let v = mapping .1 (m .1) in accepted .1 (m .0, v .0, v .1))
 
--- Every plan that the planner writes is accepted by the check, at the planner's cost. (A slice keeps its length.)
+-- Every plan that the planner writes is accepted by the check, at the planner's cost. (`planner::plan`, clauses `answer` and `output`.)
 pub written-accepted :
-    (bytes : List ℕ) (h : Sheet) → reading bytes ≡ readings.Accepted h →
-    (k n : ℕ) (output output' : List ℕ) → instance bytes .r ≤ length output → length output' ≡ length output →
+    (bytes output output' : List ℕ) (costs choices k n : ℕ) →
+    planned bytes (length output) costs choices ≡ Plan k n →
     OutputAfter (instance bytes) (Plan k n) output output' →
-    checked bytes (take (instance bytes .r) output') ≡ Accepted k
-written-accepted bytes h reads k n output output' enough same o =
-    accepted-iff bytes h reads (take (instance bytes .r) output') k .1
-    (planning.written (instance bytes) (well-formed bytes h reads) k output' (subst (λ (m : ℕ). instance bytes .r ≤ m) (sym same) enough) (o .0) (o .1))
+    checked bytes (take (instance bytes .r) output') ≡ answers.Accepted k
+written-accepted bytes output output' costs choices k n e o =
+    let p = planning.written bytes output output' costs choices k n e o in
+    accepted-iff bytes (p .0) (p .1) (take (instance bytes .r) output') k .1 (p .2, p .3, p .4)
 
--- Demand 3. On every sheet that the reader accepts, with memory enough and whatever it held: the planner gives a plan or 12. With a plan of
--- cost k some valid plan costs k and no valid rival costs less; with 12 no plan is valid. The count is that of the splits weighed in both cases,
--- and is at most (s - 1) × 3^r.
+-- ---- Demand 3
+
+-- On every sheet that the reader accepts, with memory enough and whatever it held, the planner gives a plan or 12. With a plan of cost k some
+-- mapping that is feasible by Definition 1 and keeps the limits costs k, and no such mapping costs less; with 12 there is no such mapping. In both
+-- cases the count is that of the splits weighed, and is at most (s - 1) × 3^r. (`planner::plan`, clause `answer`.)
 pub demand-3 :
     (bytes : List ℕ) (h : Sheet) → reading bytes ≡ readings.Accepted h →
-    (output costs choices : ℕ) →
-    instance bytes .r ≤ output → entries (instance bytes) ≤ costs → entries (instance bytes) ≤ choices →
-    (((k : ℕ) × (planned bytes output costs choices ≡ Plan k (weighed (instance bytes)))
-    × ((π : ℕ → ℕ) × (valid (instance bytes) π ≡ true) × (plan-cost (instance bytes) π ≡ k))
-    × ((π : ℕ → ℕ) → valid (instance bytes) π ≡ true → k ≤ plan-cost (instance bytes) π))
-    ⊎ ((planned bytes output costs choices ≡ Refused (refusal 12) (weighed (instance bytes)))
-    × ((π : ℕ → ℕ) → valid (instance bytes) π ≡ true → ⊥)))
-    × (weighed (instance bytes) ≤ (instance bytes .s - 1) * 3 ^ instance bytes .r)
-demand-3 bytes h reads output costs choices o c d =
-    (planning.plan-or-none bytes h reads output costs choices o c d, planning.weighed-le (instance bytes) (well-formed bytes h reads))
+    (output costs choices : ℕ) → Enough (instance bytes) output costs choices →
+    Best (instance bytes) (planned bytes output costs choices) × (weighed (instance bytes) ≤ (instance bytes .s - 1) * 3 ^ instance bytes .r)
+demand-3 bytes h reads output costs choices enough =
+    (planning.best-answer bytes h reads output costs choices enough, planning.weighed-le (instance bytes) (well-formed bytes h reads))
+
+-- So a plan is given exactly when some mapping is feasible and keeps the limits.
+pub plan-exactly-when :
+    (bytes : List ℕ) (h : Sheet) → reading bytes ≡ readings.Accepted h →
+    (output costs choices : ℕ) → Enough (instance bytes) output costs choices →
+    (plan.number (planned bytes output costs choices) ≡ 0)
+    ↔ ((π : ℕ → ℕ) × (ρ : ℕ → List ℕ) × Feasible (road (instance bytes)) π ρ × Limits (instance bytes) π ρ)
+plan-exactly-when bytes h reads output costs choices enough = planning.exactly (instance bytes) (planned bytes output costs choices) (planning.best-answer bytes h reads output costs choices enough)
+
+-- The plan written: with some paths, what stands in the first r places of the output after a plan is a mapping that is feasible, keeps the
+-- limits and costs what is answered, and no mapping costs less. (`planner::plan`, clauses `answer` and `output`.)
+pub plan-written :
+    (bytes output output' : List ℕ) (costs choices k n : ℕ) →
+    planned bytes (length output) costs choices ≡ Plan k n →
+    OutputAfter (instance bytes) (Plan k n) output output' →
+    Maps (instance bytes) (place (take (instance bytes .r) output')) k × NoneCheaper (instance bytes) k
+plan-written bytes output output' costs choices k n e o =
+    let p = planning.written bytes output output' costs choices k n e o in
+    let W = well-formed bytes (p .0) (p .1) in (
+      plan-iff-mapping (instance bytes) W (place (take (instance bytes .r) output')) k .0 (p .3, p .4),
+      cheapest-mapping (instance bytes) W k .0 (planning.plan-cheapest bytes (length output) costs choices k n e .3) .1,
+    )

@@ -1,41 +1,41 @@
--- What the planner's definition gives on an accepted sheet with memory enough: the work behind demands 1 and 3.
-use Prim.Native.Nat.{ℕ, zero, suc, _-_, _*_, _^_, _≤_}
+-- What the planner's definition gives: the work behind the demands.
+use Prim.Native.Nat.{ℕ, zero, suc, _+_, _-_, _*_, _^_, _≤_, _<_}
 use native.Mathlib.Omega.{arith}
-use mathlib.Core.Logic.{_⊎_, inl, inr}
+use mathlib.Core.Logic.{_↔_, _⊎_, inl, inr}
 use mathlib.Core.Path.{_≡_, refl, sym, ap, _∙_, subst}
-use mathlib.Core.Bool.{true}
-use mathlib.Core.List.{List}
-use lib.ListN.{length, take}
-use lib.Seq.{length-take-le, getD-take}
-use borrow.Author.Tests.{ne-eqb}
+use mathlib.Core.Bool.{Bool, true, false, cond}
+use mathlib.Core.List.{List, _++_}
+use lib.ListN.{length, getD, take, drop, replicate, length-append, length-replicate, getD-replicate, length-drop, List·getD-append}
+use lib.Seq.{length-take-le, getD-take, getD-append-add, getD-drop}
+use borrow.Author.Tests.{eqb-true}
 use Rattle.subsets.specs.Costs.{Cost, none, some}
-use Rattle.subsets.specs.Count.{triples, pairs}
+use Rattle.subsets.specs.Inner.Count.{triples, pairs}
 use Rattle.subsets.proofs.Count.{triples-le}
+use Rattle.subsets.proofs.Provided.{provided-some}
 use Rattle.sheet.specs.Instance.{Instance, WellFormed, instance}
-use Rattle.sheet.specs.Refusals.{lowest, refusal, number-of}
+use Rattle.sheet.specs.Refusals.{first-applying, refusal, number-of}
 use Rattle.sheet.specs.Reading.{reading}
 use Rattle.sheet.specs.declared.Sheet.{Sheet}
 use Rattle.sheet.specs.declared.Refusal.{Refusal}
 use Rattle.sheet.specs.declared.Reading.{Reading}
 use Rattle.sheet.specs.declared.Reading.the-variants as readings
-use Rattle.sheet.proofs.Groups.{number-refusal, own-group, reading-group, lowest-between, reading-number}
-use Rattle.embedding.specs.Plan.{valid, plan-cost, worth, cheapest}
-use Rattle.subsets.proofs.Provided.{provided-some}
-use Rattle.embedding.proofs.Services.{worth-ext}
-use Rattle.checker.specs.Check.{place}
-use Rattle.embedding.specs.Splits.{placeable, weighed}
-use Rattle.embedding.specs.Definition1.{Feasible, cost}
+use Rattle.sheet.proofs.Groups.{number-refusal, own-group, reading-group, first-between, reading-number}
+use Rattle.sheet.proofs.Promises.{well-formed}
+use Rattle.embedding.specs.Definition1.{Feasible}
 use Rattle.embedding.specs.Limits.{Limits}
 use Rattle.embedding.specs.Road.{road}
+use Rattle.embedding.specs.Plan.{valid, plan-cost, worth, cheapest}
+use Rattle.embedding.specs.Splits.{placeable, weighed}
+use Rattle.embedding.proofs.Services.{worth-ext}
 use Rattle.embedding.proofs.Theorems.{plan-iff-mapping, cheapest-mapping, cheapest-none}
+use Rattle.checker.specs.Check.{place}
 use Rattle.planner.specs.Answers as plans
-use Rattle.planner.specs.Answers.{entries, rules, solved, lent, planned}
+use Rattle.planner.specs.Answers.{number, entries, lender-rules, Enough, solved, lent, planned}
+use Rattle.planner.specs.Lent.{used, table-after, OutputAfter}
 use Rattle.planner.specs.declared.Planned.{Planned}
 use Rattle.planner.specs.declared.Planned.the-variants.{Plan, Refused}
-use Rattle.planner.specs.Lent.{table-after}
-use Rattle.sheet.proofs.Promises.{well-formed}
-use Rattle.planner.proofs.Lending.{enough}
-use Rattle.theorems.specs.Given.{Given}
+use Rattle.planner.proofs.Order.{enough-iff}
+use Rattle.theorems.specs.Promised.{Given, Maps, NoneCheaper, NoMapping, Best, Cleared, Written, Left}
 
 -- ---- the number of a refusal
 
@@ -48,7 +48,7 @@ given low high n l h =
     }
 
 -- the reader's refusals are 1 to 9
-pub reader-given : (bytes : List ℕ) (f : Refusal) → reading bytes ≡ readings.Refused f → Given 1 9 f
+reader-given : (bytes : List ℕ) (f : Refusal) → reading bytes ≡ readings.Refused f → Given 1 9 f
 reader-given bytes f e =
     let n = reading-number bytes f e in
     record { grouped = reading-group bytes f e; least = n .0; most = n .1 }
@@ -69,10 +69,10 @@ solved-answered none n =
     inr (refusal 12, n, refl, given 1 12 12 (omega arith) (omega arith), λ h. absurd (h (number-refusal 12)))
 solved-answered (some k) n = inl (k, n, refl)
 
-lent-answered : (I : Instance) (output costs choices m : ℕ) → lowest (rules I output costs choices) ≡ m → Answered (lent m I)
+lent-answered : (I : Instance) (output costs choices m : ℕ) → first-applying (lender-rules I output costs choices) ≡ m → Answered (lent m I)
 lent-answered I output costs choices zero e = solved-answered (cheapest I) (weighed I)
 lent-answered I output costs choices (suc n) e =
-    let b = lowest-between 10 11 (rules I output costs choices) refl n e in
+    let b = first-between 10 11 (lender-rules I output costs choices) refl n e in
     inr (refusal (suc n), 0, refl, given 1 12 (suc n) (omega (arith, b .0)) (omega (arith, b .1)), λ h. refl)
 
 pub answered : (bytes : List ℕ) (output costs choices : ℕ) → Answered (planned bytes output costs choices)
@@ -80,95 +80,162 @@ unfolding planned
 answered bytes output costs choices = go (reading bytes) refl
   where
     go : (r : Reading) → reading bytes ≡ r → Answered (plans.answered r (instance bytes) output costs choices)
-    go (readings.Refused f) e =
-        let g = reader-given bytes f e in
-        inr (f, 0, refl, wider f g, λ h. refl)
-    go (readings.Accepted h) e = lent-answered (instance bytes) output costs choices (lowest (rules (instance bytes) output costs choices)) refl
+    go (readings.Refused f) e = inr (f, 0, refl, wider f (reader-given bytes f e), λ h. refl)
+    go (readings.Accepted h) e =
+        lent-answered (instance bytes) output costs choices (first-applying (lender-rules (instance bytes) output costs choices)) refl
 
--- ---- memory enough
+-- ---- a plan or 12
 
+-- the planner came to plan: the reader accepted, and the memory was enough
+record Solved (bytes : List ℕ) (output costs choices : ℕ) : Type 0 where
+  sheet : Sheet
+  reads : reading bytes ≡ readings.Accepted sheet
+  enough : Enough (instance bytes) output costs choices
+
+-- on an accepted sheet with memory enough the cheapest cost decides
 pub accepted-solved :
     (bytes : List ℕ) (h : Sheet) → reading bytes ≡ readings.Accepted h →
-    (output costs choices : ℕ) → instance bytes .r ≤ output → entries (instance bytes) ≤ costs → entries (instance bytes) ≤ choices →
+    (output costs choices : ℕ) → Enough (instance bytes) output costs choices →
     planned bytes output costs choices ≡ solved (cheapest (instance bytes)) (weighed (instance bytes))
 unfolding planned
-accepted-solved bytes h e output costs choices o c d =
-    ap (λ (r : Reading). plans.answered r (instance bytes) output costs choices) e
-    ∙ sym (enough (instance bytes) output costs choices o c d)
+accepted-solved bytes h e output costs choices enough =
+    ap (λ (r : Reading). plans.answered r (instance bytes) output costs choices) e ∙ ap (λ (m : ℕ). lent m (instance bytes)) enough
 
--- ---- the cheapest
+-- a plan and 12 come of nothing else
+used-solved : (bytes : List ℕ) (output costs choices : ℕ) → used (planned bytes output costs choices) ≡ true → Solved bytes output costs choices
+unfolding planned
+used-solved bytes output costs choices u = go (reading bytes) refl u
+  where
+    lender : (h : Sheet) → reading bytes ≡ readings.Accepted h → (m : ℕ) → first-applying (lender-rules (instance bytes) output costs choices) ≡ m → used (lent m (instance bytes)) ≡ true → Solved bytes output costs choices
+    lender h e zero q u = record { sheet = h; reads = e; enough = q }
+    lender h e (suc n) q u =
+        let b = first-between 10 11 (lender-rules (instance bytes) output costs choices) refl n q in
+        absurd (omega (arith, number-refusal (suc n), eqb-true (number-of (refusal (suc n))) 12 u, b .1))
+
+    go : (r : Reading) → reading bytes ≡ r → used (plans.answered r (instance bytes) output costs choices) ≡ true → Solved bytes output costs choices
+    go (readings.Accepted h) e u = lender h e (first-applying (lender-rules (instance bytes) output costs choices)) refl u
+    go (readings.Refused f) e u = absurd (omega (arith, eqb-true (number-of f) 12 u, reader-given bytes f e .most))
+
+-- the cheapest cost is the one answered
+pub plan-cheapest : (bytes : List ℕ) (output costs choices k n : ℕ) → planned bytes output costs choices ≡ Plan k n →
+    (h : Sheet) × (reading bytes ≡ readings.Accepted h) × Enough (instance bytes) output costs choices × (cheapest (instance bytes) ≡ some k)
+plan-cheapest bytes output costs choices k n e =
+    let s = used-solved bytes output costs choices (ap used e) in
+    (s .sheet, s .reads, s .enough, go (cheapest (instance bytes)) (sym (accepted-solved bytes (s .sheet) (s .reads) output costs choices (s .enough)) ∙ e))
+  where
+    go : (f : Cost) → solved f (weighed (instance bytes)) ≡ Plan k n → f ≡ some k
+    go none q = absurd (let z : _≡_ {A = ℕ} 0 1 = cc in omega arith)
+    go (some m) q = ap some (ap plans.cost q)
 
 module _ (I : Instance) (W : WellFormed I) where
-  -- the cheapest cost is that of a valid plan, and no valid plan costs less
-  pub cheapest-plan : (k : ℕ) → cheapest I ≡ some k →
-      ((π : ℕ → ℕ) × (valid I π ≡ true) × (plan-cost I π ≡ k)) × ((π : ℕ → ℕ) → valid I π ≡ true → k ≤ plan-cost I π)
-  cheapest-plan k e =
+  -- with a cheapest cost or without one, the answer is the best
+  best : (f : Cost) → cheapest I ≡ f → Best I (solved f (weighed I))
+  best none e = inr (refl, cheapest-none I W .0 e)
+  best (some k) e =
       let h = cheapest-mapping I W k .0 e in
       let w = h .0 in
-      let p = plan-iff-mapping I W (w .0) k .1 (w .1, w .2, w .3, w .4) in
-      ((w .0, p .0, p .1), λ π v. rival π v (h .1))
-    where
-      rival :
-          (π : ℕ → ℕ) → valid I π ≡ true →
-          ((π : ℕ → ℕ) (ρ : ℕ → List ℕ) → Feasible (road I) π ρ → Limits I π ρ → k ≤ cost (road I) π ρ) →
-          k ≤ plan-cost I π
-      rival π v low =
-          let m = plan-iff-mapping I W π (plan-cost I π) .0 (v, refl) in
-          subst (λ (n : ℕ). k ≤ n) (m .3) (low π (m .0) (m .1) (m .2))
-
-  -- where there is no cheapest cost no plan is valid
-  pub no-plan : cheapest I ≡ none → (π : ℕ → ℕ) → valid I π ≡ true → ⊥
-  no-plan e π v =
-      let m = plan-iff-mapping I W π (plan-cost I π) .0 (v, refl) in
-      cheapest-none I W .0 e π (m .0) (m .1) (m .2)
+      inl (k, refl, (w .0, (w .1, w .2, w .3, w .4)), h .1)
 
   -- at most (s - 1) × 3^r splits are weighed
   pub weighed-le : weighed I ≤ (I .s - 1) * 3 ^ I .r
   unfolding weighed triples pairs
   weighed-le = triples-le (I .r) (I .s) (placeable I)
 
--- ---- the whole of demand 3
-
-pub plan-or-none :
+pub best-answer :
     (bytes : List ℕ) (h : Sheet) → reading bytes ≡ readings.Accepted h →
-    (output costs choices : ℕ) →
-    instance bytes .r ≤ output → entries (instance bytes) ≤ costs → entries (instance bytes) ≤ choices →
-    ((k : ℕ) × (planned bytes output costs choices ≡ Plan k (weighed (instance bytes)))
-    × ((π : ℕ → ℕ) × (valid (instance bytes) π ≡ true) × (plan-cost (instance bytes) π ≡ k))
-    × ((π : ℕ → ℕ) → valid (instance bytes) π ≡ true → k ≤ plan-cost (instance bytes) π))
-    ⊎ ((planned bytes output costs choices ≡ Refused (refusal 12) (weighed (instance bytes)))
-    × ((π : ℕ → ℕ) → valid (instance bytes) π ≡ true → ⊥))
-plan-or-none bytes h reads output costs choices o c d =
-    go (cheapest (instance bytes)) refl (accepted-solved bytes h reads output costs choices o c d)
-  where
-    go : (f : Cost) → cheapest (instance bytes) ≡ f →
-        planned bytes output costs choices ≡ solved (cheapest (instance bytes)) (weighed (instance bytes)) →
-        ((k : ℕ) × (planned bytes output costs choices ≡ Plan k (weighed (instance bytes)))
-        × ((π : ℕ → ℕ) × (valid (instance bytes) π ≡ true) × (plan-cost (instance bytes) π ≡ k))
-        × ((π : ℕ → ℕ) → valid (instance bytes) π ≡ true → k ≤ plan-cost (instance bytes) π))
-        ⊎ ((planned bytes output costs choices ≡ Refused (refusal 12) (weighed (instance bytes)))
-        × ((π : ℕ → ℕ) → valid (instance bytes) π ≡ true → ⊥))
-    go none q e =
-        inr (e ∙ ap (λ (f : Cost). solved f (weighed (instance bytes))) q, no-plan (instance bytes) (well-formed bytes h reads) q)
-    go (some k) q e =
-        let p = cheapest-plan (instance bytes) (well-formed bytes h reads) k q in
-        inl (k, e ∙ ap (λ (f : Cost). solved f (weighed (instance bytes))) q, p .0, p .1)
+    (output costs choices : ℕ) → Enough (instance bytes) output costs choices → Best (instance bytes) (planned bytes output costs choices)
+best-answer bytes h reads output costs choices enough =
+    subst (Best (instance bytes)) (sym (accepted-solved bytes h reads output costs choices enough))
+    (best (instance bytes) (well-formed bytes h reads) (cheapest (instance bytes)) refl)
+
+-- a best answer is a plan exactly when there is a mapping
+pub exactly : (I : Instance) (a : Planned) → Best I a →
+    (number a ≡ 0) ↔ ((π : ℕ → ℕ) × (ρ : ℕ → List ℕ) × Feasible (road I) π ρ × Limits I π ρ)
+exactly I a (inl (k, e, w, r)) = (λ z. (w .0, w .1 .0, w .1 .1, w .1 .2), λ m. ap number e)
+exactly I a (inr (e, empty)) =
+    (λ z. absurd (let q : number-of (refusal 12) ≡ 0 = sym (ap number e) ∙ z in omega (arith, number-refusal 12)), λ m. absurd (empty (m .0) (m .1) (m .2) (m .3)))
+
+-- ---- the plan written
+
+-- what stands in the first r places of the output is a valid plan at the cost answered
+pub written :
+    (bytes output output' : List ℕ) (costs choices k n : ℕ) →
+    planned bytes (length output) costs choices ≡ Plan k n →
+    OutputAfter (instance bytes) (Plan k n) output output' →
+    (h : Sheet) × (reading bytes ≡ readings.Accepted h)
+    × (length (take (instance bytes .r) output') ≡ instance bytes .r)
+    × (valid (instance bytes) (place (take (instance bytes .r) output')) ≡ true)
+    × (plan-cost (instance bytes) (place (take (instance bytes .r) output')) ≡ k)
+unfolding worth
+written bytes output output' costs choices k n e o =
+    let I = instance bytes in
+    let s = plan-cheapest bytes (length output) costs choices k n e in
+    let W = well-formed bytes (s .0) (s .1) in
+    let places = enough-iff I (length output) costs choices .0 (s .2) .0 in
+    let length-stays : length output' ≡ length output = o .0 in
+    let same = worth-ext I W (place (take (I .r) output')) (place output') (λ i l. getD-take (I .r) output' i 0 l) in
+    let p =
+    provided-some (valid I (place (take (I .r) output'))) (plan-cost I (place (take (I .r) output'))) k .0
+    (same ∙ provided-some (valid I (place output')) (plan-cost I (place output')) k .1 (o .1, o .2)) in
+    (s .0, s .1, length-take-le (I .r) output' (omega arith), p .0, p .1)
 
 -- ---- the memory lent
 
--- a refusal but 12 leaves a table as it was
-pub untouched : (I : Instance) (f : Refusal) (n : ℕ) → (number-of f ≡ 12 → ⊥) → (table : List ℕ) → table-after I (Refused f n) table ≡ table
-untouched I f n h table = simp (ne-eqb (number-of f) 12 h)
+-- a list whose first n places were written: the others stay
+stays : (n : ℕ) (part list : List ℕ) (i : ℕ) → length part ≡ n → n ≤ i → getD (part ++ drop n list) i 0 ≡ getD list i 0
+stays n part list i e l =
+    ap (λ (j : ℕ). getD (part ++ drop n list) j 0) (let q : i ≡ length part + (i - n) = omega arith in q)
+    ∙ getD-append-add part (drop n list) (i - n) 0
+    ∙ getD-drop n list (i - n) 0
+    ∙ ap (λ (j : ℕ). getD list j 0) (let q : n + (i - n) ≡ i = omega arith in q)
 
--- the first r places of the output are a plan of their own
-pub written :
-    (I : Instance) → WellFormed I → (k : ℕ) (output : List ℕ) → I .r ≤ length output →
-    valid I (place output) ≡ true → plan-cost I (place output) ≡ k →
-    (length (take (I .r) output) ≡ I .r) × (valid I (place (take (I .r) output)) ≡ true) × (plan-cost I (place (take (I .r) output)) ≡ k)
-unfolding worth
-written I W k output enough v c =
-    let same = worth-ext I W (place (take (I .r) output)) (place output) (λ i l. getD-take (I .r) output i 0 l) in
-    let p =
-    provided-some (valid I (place (take (I .r) output))) (plan-cost I (place (take (I .r) output))) k .0
-    (same ∙ provided-some (valid I (place output)) (plan-cost I (place output)) k .1 (v, c)) in
-    (length-take-le (I .r) output enough, p .0, p .1)
+cleared : (n : ℕ) (table : List ℕ) → n ≤ length table → Cleared n table (replicate n 0 ++ drop n table)
+cleared n table h =
+    let l : List ℕ = replicate n 0 in
+    let zeros : length l ≡ n = length-replicate n 0 in
+    record {
+      there = h;
+      length-stays = length-append l (drop n table) ∙ (let q : length l + length (drop n table) ≡ length table = omega (arith, length-drop n table) in q);
+      first = λ i l. List·getD-append (replicate n 0) (drop n table) 1 i (omega arith) ∙ getD-replicate n i 0 1 l;
+      rest = λ i l. stays n (replicate n 0) table i zeros l;
+    }
+
+-- the output with a plan in it
+output-written : (I : Instance) (k n : ℕ) (output output' : List ℕ) → I .r ≤ length output → OutputAfter I (Plan k n) output output' → Written (I .r) output output'
+output-written I k n output output' h o =
+    let same : length output' ≡ length output = o .0 in
+    record {
+      there = h;
+      length-stays = same;
+      rest = λ i l. ap (λ (list : List ℕ). getD list i 0) (o .3) ∙ stays (I .r) (take (I .r) output') output i (length-take-le (I .r) output' (omega arith)) l;
+    }
+
+-- the memory after a planning call
+pub left :
+    (bytes output costs choices output' costs' choices' : List ℕ) (a : Planned) →
+    a ≡ planned bytes (length output) (length costs) (length choices) →
+    OutputAfter (instance bytes) a output output' →
+    costs' ≡ table-after (instance bytes) a costs →
+    choices' ≡ table-after (instance bytes) a choices →
+    Left (instance bytes) a output costs choices output' costs' choices'
+left bytes output costs choices output' costs' choices' a e o t u =
+    record {
+      cleared = λ h. let n = enough h in (
+        subst (Cleared (entries I) costs) (sym (t ∙ after true h costs)) (cleared (entries I) costs (n .1)),
+        subst (Cleared (entries I) choices) (sym (u ∙ after true h choices)) (cleared (entries I) choices (n .2)),
+      );
+      untouched = λ h. (t ∙ after false h costs, u ∙ after false h choices);
+      planned = λ k n p. output-written I k n output output' (enough (ap used p) .0) (subst (λ (b : Planned). OutputAfter I b output output') p o);
+      refused = λ f n p. subst (λ (b : Planned). OutputAfter I b output output') p o;
+    }
+  where
+    I : Instance
+    I = instance bytes
+
+    after : (b : Bool) → used a ≡ b → (table : List ℕ) → table-after I a table ≡ cond b (replicate (entries I) 0 ++ drop (entries I) table) table
+    after b h table = ap (λ (c : Bool). cond c (replicate (entries I) 0 ++ drop (entries I) table) table) h
+
+    enough : used a ≡ true → (I .r ≤ length output) × (entries I ≤ length costs) × (entries I ≤ length choices)
+    enough h =
+        let s = used-solved bytes (length output) (length costs) (length choices) (sym (ap used e) ∙ h) in
+        enough-iff I (length output) (length costs) (length choices) .0 (s .enough)

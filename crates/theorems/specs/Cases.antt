@@ -11,7 +11,7 @@ use Rattle.embedding.specs.Plan.{digit, valid, plan-cost}
 use Rattle.checker.specs.Check.{checked}
 use Rattle.checker.specs.declared.Checked.{Checked}
 use Rattle.checker.specs.declared.Checked.the-variants.{Accepted, Refused}
-use Rattle.planner.specs.Answers.{entries, cost-of, planned}
+use Rattle.planner.specs.Answers.{entries, cost, planned}
 use Rattle.planner.specs.declared.Planned.{Planned}
 use Rattle.planner.specs.declared.Planned.the-variants as plans
 
@@ -44,7 +44,7 @@ all-put I k i c =
 abbrev pub Holds : Case → Type 0
 Holds (check bytes places answer) = checked bytes places ≡ answer
 Holds (plan bytes answer) = answer-to bytes ≡ answer
-Holds (plan-costs bytes k) = cost-of (answer-to bytes) ≡ k
+Holds (plan-costs bytes k) = cost (answer-to bytes) ≡ k
 Holds (puts bytes k i c) = all-put (instance bytes) k i c ≡ true
 
 -- every case of a table holds

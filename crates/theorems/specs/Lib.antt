@@ -1,3 +1,3 @@
--- The worked cases as one table.
-pub mod Given
+-- The words of the demands, and the worked cases as one table.
+pub mod Promised
 pub mod Cases

@@ -7,7 +7,7 @@ use Rattle.sheet.specs.declared.Sheet.{Sheet}
 use Rattle.sheet.proofs.Promises.{counts}
 use Rattle.embedding.specs.Plan.{in-range}
 use Rattle.checker.specs.Check.{place}
-use Rattle.checker.specs.Records.{Reads, Placed}
+use Rattle.checker.specs.Inner.Records.{Reads, Placed}
 use Rattle.checker.proofs.Deciding as deciding
 use borrow.Author.Needs.{needs}
 use Rattle.checker.proofs.check.Statement.{statement}

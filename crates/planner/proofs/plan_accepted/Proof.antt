@@ -13,7 +13,7 @@ use Rattle.sheet.proofs.Promises as promises
 use Rattle.embedding.specs.Plan.{cheapest}
 use Rattle.embedding.specs.Splits.{weighed}
 use Rattle.planner.specs.Answers.{entries, solved}
-use Rattle.planner.specs.Loaded.{held}
+use Rattle.planner.specs.Inner.Loaded.{held}
 use Rattle.planner.specs.Lent.{table-after, OutputAfter}
 use Rattle.planner.proofs.Charging.{sets-le}
 use Rattle.planner.proofs.Lending.{short-output, short-costs, short-choices, enough, table-lifted, output-lifted}

@@ -1,8 +1,8 @@
 -- `solve` meets its contract: the root's figure for all services decides, the plan is read back from the choices, and both tables are cleared.
 use mathlib.Core.Path.{ap₂}
 use Rattle.subsets.specs.Figures.{limit}
-use Rattle.subsets.specs.Back.{seat}
-use Rattle.embedding.specs.Charge.{net}
+use Rattle.subsets.specs.Inner.Back.{seat}
+use Rattle.embedding.specs.Inner.Charge.{net}
 use Rattle.planner.proofs.Charging.{sets-le}
 use Rattle.planner.proofs.Parted.{row-within}
 use Prim.Native.Nat.{ℕ, _+_, _-_, _*_, _^_, _<_}
@@ -20,8 +20,8 @@ use Rattle.embedding.specs.Plan.{cheapest}
 use Rattle.embedding.specs.Splits.{weighed}
 use Rattle.planner.specs.declared.Planned.the-variants.{Plan, Refused}
 use Rattle.planner.specs.Answers.{solved}
-use Rattle.planner.specs.Loaded.{held}
-use Rattle.planner.specs.Tables.{entry}
+use Rattle.planner.specs.Inner.Loaded.{held}
+use Rattle.planner.specs.Inner.Tables.{entry}
 use Rattle.planner.proofs.Solving.{no-plan, some-plan, read-plan}
 use Rattle.planner.proofs.solve.Statement.{statement}
 use Rattle.planner.proofs.solve.Tie as tie
@@ -134,7 +134,7 @@ returns-2 c =
     let good = read-plan I (P .0) _ _ _ F v k out (λ i l. c .before .before .before .before .before .before .before .before .before .before .read-back .ensures i (omega (arith, P .1 .0)) ∙ ap (λ (n : ℕ). seat (net I) (entry (2 ^ I .r) (c .before .before .before .before .before .before .before .before .before .before .before .before .before .before .before .before .before .before .before .fill .last .1 .0)) 0 (I .s) (n - 1) i) e) in (
       ap (Plan v) (F .count) ∙ sym (ap (λ (f : Cost). solved f (weighed I)) k),
       (
-        (good .0, good .1, sym (ap₂ (λ (x y : List ℕ). x ++ y) (take-all (I .r) out (omega arith)) (drop-of-length-le (a .output .now) {i = I .r} (omega (arith, P .1 .0))) ∙ append-nil out)),
+        (same ∙ sym (P .1 .0), good .0, good .1, sym (ap₂ (λ (x y : List ℕ). x ++ y) (take-all (I .r) out (omega arith)) (drop-of-length-le (a .output .now) {i = I .r} (omega (arith, P .1 .0))) ∙ append-nil out)),
         (
           c .before .before .before .before .before .before .clear-costs2 .ensures ∙ ap (λ (n : ℕ). replicate n 0) (c .before .before .before .before .before .before .before .before .before .before .before .before .before .before .before .before .before .before .before .fill .kept .0 ∙ P .1 .1 .0),
           c .before .before .clear-choices2 .ensures ∙ ap (λ (n : ℕ). replicate n 0) (c .before .before .before .before .before .before .before .before .before .before .before .before .before .before .before .before .before .before .before .fill .kept .1 .0 ∙ P .1 .1 .1),

@@ -7,7 +7,7 @@ use lib.ListN.{drop}
 use borrow.Author.Tests.{lt-ltb, le-ltb, eq-eqb, ne-eqb}
 use Rattle.sheet.specs.Layout.{header}
 use Rattle.sheet.specs.Conditions.{beyond-limits}
-use Rattle.sheet.specs.Refusals.{lowest, refusal}
+use Rattle.sheet.specs.Refusals.{first-applying, refusal}
 use Rattle.sheet.specs.Reading.{rules, answered, reading}
 use Rattle.sheet.proofs.Ladder.{pass, stop}
 use Rattle.sheet.proofs.Passed.{counted, bounded}
@@ -24,18 +24,18 @@ use Rattle.sheet.proofs.records.word.Reads as word-reads
 abbrev claims : lts.Claims
 claims = (read-header-reads.Asked, read-header-reads.Learnt, is-beyond-limits-reads.Asked, is-beyond-limits-reads.Learnt, word-reads.Asked, word-reads.Learnt, read-blocks-reads.Asked, read-blocks-reads.Learnt)
 
-past1 : (c : lts.Else1 claims reads.Pre reads.Post) → lowest (rules (c .before .before .args .bytes .now)) ≡ lowest (drop 1 (rules (c .before .before .args .bytes .now)))
+past1 : (c : lts.Else1 claims reads.Pre reads.Post) → first-applying (rules (c .before .before .args .bytes .now)) ≡ first-applying (drop 1 (rules (c .before .before .args .bytes .now)))
 unfolding rules
 past1 c = pass _ _ (le-ltb _ _ (c .if1 .left))
 
-past2 : (c : lts.Else2 claims reads.Pre reads.Post) → lowest (rules (c .before .before .before .before .before .args .bytes .now)) ≡ lowest (drop 2 (rules (c .before .before .before .before .before .args .bytes .now)))
+past2 : (c : lts.Else2 claims reads.Pre reads.Post) → first-applying (rules (c .before .before .before .before .before .args .bytes .now)) ≡ first-applying (drop 2 (rules (c .before .before .before .before .before .args .bytes .now)))
 unfolding rules
 past2 c =
     let e : beyond-limits (header (c .before .before .before .before .before .args .bytes .now)) (c .before .before .before .before .before .args .bytes .now) ≡ false =
     sym (c .before .is-beyond-limits .ensures ∙ ap (λ (h : Sheet). beyond-limits h (c .before .before .before .before .before .args .bytes .now)) (c .before .before .read-header .ensures .0)) ∙ c .if2 .left in
     past1 (c .before .before .before) ∙ pass _ _ e
 
-past3 : (c : lts.Else3 claims reads.Pre reads.Post) → lowest (rules (c .before .before .before .before .before .before .before .args .bytes .now)) ≡ lowest (drop 3 (rules (c .before .before .before .before .before .before .before .args .bytes .now)))
+past3 : (c : lts.Else3 claims reads.Pre reads.Post) → first-applying (rules (c .before .before .before .before .before .before .before .args .bytes .now)) ≡ first-applying (drop 3 (rules (c .before .before .before .before .before .before .before .args .bytes .now)))
 unfolding rules
 past3 c =
     past2 (c .before .before) ∙ pass _ _ (ap not (eq-eqb _ _ (sym (c .before .word .ensures .0) ∙ c .if3 .left)))
@@ -80,7 +80,7 @@ returns-4 : tie.Need-returns-4
 unfolding reading
 returns-4 c =
     c .read-blocks .ensures
-    ∙ ap (answered (lowest (drop 3 (rules (c .before .before .before .before .before .before .before .before .args .bytes .now))))) (c .before .before .before .before .before .read-header .ensures .0)
+    ∙ ap (answered (first-applying (drop 3 (rules (c .before .before .before .before .before .before .before .before .args .bytes .now))))) (c .before .before .before .before .before .read-header .ensures .0)
     ∙ sym (ap (λ (n : ℕ). answered n (header (c .before .before .before .before .before .before .before .before .args .bytes .now))) (past3 (c .before)))
 
 pub read-spec : {M : Type 1} → statement M

@@ -6,7 +6,7 @@ use Prim.Native.Nat.{ℕ}
 use lib.ListN.{length, drop}
 use Rattle.sheet.specs.Layout.{header}
 use Rattle.sheet.specs.Conditions.{some-block-outside, some-blocks-share}
-use Rattle.sheet.specs.Refusals.{lowest, refusal}
+use Rattle.sheet.specs.Refusals.{first-applying, refusal}
 use Rattle.sheet.specs.Reading.{rules, answered}
 use Rattle.sheet.proofs.Ladder.{pass, stop}
 use Rattle.sheet.proofs.Passed.{inside}
@@ -22,14 +22,14 @@ use Rattle.sheet.proofs.read_records.Reads as read-records-reads
 abbrev claims : lts.Claims
 claims = (any-outside-reads.Asked, any-outside-reads.Learnt, any-share-reads.Asked, any-share-reads.Learnt, read-records-reads.Asked, read-records-reads.Learnt)
 
-past1 : (c : lts.Else1 claims reads.Pre reads.Post) → lowest (drop 3 (rules (c .before .before .before .args .bytes .now))) ≡ lowest (drop 4 (rules (c .before .before .before .args .bytes .now)))
+past1 : (c : lts.Else1 claims reads.Pre reads.Post) → first-applying (drop 3 (rules (c .before .before .before .args .bytes .now))) ≡ first-applying (drop 4 (rules (c .before .before .before .args .bytes .now)))
 unfolding rules
 past1 c =
     let e : some-block-outside (header (c .before .before .before .args .bytes .now)) (length (c .before .before .before .args .bytes .now)) ≡ false =
     sym (c .before .any-outside .ensures ∙ ap (λ (h : Sheet). some-block-outside h (length (c .before .before .before .args .bytes .now))) (c .before .before .before .pre .0)) ∙ c .if1 .left in
     pass _ _ e
 
-past2 : (c : lts.Else2 claims reads.Pre reads.Post) → lowest (drop 3 (rules (c .before .before .before .before .before .args .bytes .now))) ≡ lowest (drop 5 (rules (c .before .before .before .before .before .args .bytes .now)))
+past2 : (c : lts.Else2 claims reads.Pre reads.Post) → first-applying (drop 3 (rules (c .before .before .before .before .before .args .bytes .now))) ≡ first-applying (drop 5 (rules (c .before .before .before .before .before .args .bytes .now)))
 unfolding rules
 past2 c =
     let e : some-blocks-share (header (c .before .before .before .before .before .args .bytes .now)) ≡ false =

@@ -1,4 +1,4 @@
--- `read_records` answers the lowest of refusals 6 to 9, or the sheet: each test that is passed leaves fewer.
+-- `read_records` answers the first of refusals 6 to 9, or the sheet: each test that is passed leaves fewer.
 use Rattle.sheet.specs.declared.Sheet.{Sheet}
 use mathlib.Core.Path.{_≡_, sym, ap, _∙_}
 use mathlib.Core.Bool.{true, false}
@@ -6,7 +6,7 @@ use Prim.Native.Nat.{ℕ}
 use lib.ListN.{drop}
 use Rattle.sheet.specs.Layout.{header}
 use Rattle.sheet.specs.Conditions.{some-amount-too-high, some-parent-wrong, some-ends-wrong, root-linked}
-use Rattle.sheet.specs.Refusals.{lowest, refusal}
+use Rattle.sheet.specs.Refusals.{first-applying, refusal}
 use Rattle.sheet.specs.Reading.{rules, answered}
 use Rattle.sheet.proofs.Ladder.{pass, stop}
 use borrow.Author.Needs.{needs}
@@ -22,28 +22,28 @@ use Rattle.sheet.proofs.conditions.is_root_linked.Reads as is-root-link
 abbrev claims : lts.Claims
 claims = (is-amount-too-high-reads.Asked, is-amount-too-high-reads.Learnt, is-parent-wrong-reads.Asked, is-parent-wrong-reads.Learnt, is-end-wrong-reads.Asked, is-end-wrong-reads.Learnt, is-root-linked-reads.Asked, is-root-linked-reads.Learnt)
 
-past1 : (c : lts.Else1 claims reads.Pre reads.Post) → lowest (drop 5 (rules (c .before .before .before .args .bytes .now))) ≡ lowest (drop 6 (rules (c .before .before .before .args .bytes .now)))
+past1 : (c : lts.Else1 claims reads.Pre reads.Post) → first-applying (drop 5 (rules (c .before .before .before .args .bytes .now))) ≡ first-applying (drop 6 (rules (c .before .before .before .args .bytes .now)))
 unfolding rules
 past1 c =
     let e : some-amount-too-high (header (c .before .before .before .args .bytes .now)) (c .before .before .before .args .bytes .now) ≡ false =
     sym (c .before .is-amount-too-high .ensures ∙ ap (λ (h : Sheet). some-amount-too-high h (c .before .before .before .args .bytes .now)) (c .before .before .before .pre .0)) ∙ c .if1 .left in
     pass _ _ e
 
-past2 : (c : lts.Else2 claims reads.Pre reads.Post) → lowest (drop 5 (rules (c .before .before .before .before .before .args .bytes .now))) ≡ lowest (drop 7 (rules (c .before .before .before .before .before .args .bytes .now)))
+past2 : (c : lts.Else2 claims reads.Pre reads.Post) → first-applying (drop 5 (rules (c .before .before .before .before .before .args .bytes .now))) ≡ first-applying (drop 7 (rules (c .before .before .before .before .before .args .bytes .now)))
 unfolding rules
 past2 c =
     let e : some-parent-wrong (header (c .before .before .before .before .before .args .bytes .now)) (c .before .before .before .before .before .args .bytes .now) ≡ false =
     sym (c .before .is-parent-wrong .ensures ∙ ap (λ (h : Sheet). some-parent-wrong h (c .before .before .before .before .before .args .bytes .now)) (c .before .before .before .before .before .pre .0)) ∙ c .if2 .left in
     past1 (c .before .before) ∙ pass _ _ e
 
-past3 : (c : lts.Else3 claims reads.Pre reads.Post) → lowest (drop 5 (rules (c .before .before .before .before .before .before .before .args .bytes .now))) ≡ lowest (drop 8 (rules (c .before .before .before .before .before .before .before .args .bytes .now)))
+past3 : (c : lts.Else3 claims reads.Pre reads.Post) → first-applying (drop 5 (rules (c .before .before .before .before .before .before .before .args .bytes .now))) ≡ first-applying (drop 8 (rules (c .before .before .before .before .before .before .before .args .bytes .now)))
 unfolding rules
 past3 c =
     let e : some-ends-wrong (header (c .before .before .before .before .before .before .before .args .bytes .now)) (c .before .before .before .before .before .before .before .args .bytes .now) ≡ false =
     sym (c .before .is-end-wrong .ensures ∙ ap (λ (h : Sheet). some-ends-wrong h (c .before .before .before .before .before .before .before .args .bytes .now)) (c .before .before .before .before .before .before .before .pre .0)) ∙ c .if3 .left in
     past2 (c .before .before) ∙ pass _ _ e
 
-past4 : (c : lts.Else4 claims reads.Pre reads.Post) → lowest (drop 5 (rules (c .before .before .before .before .before .before .before .before .before .args .bytes .now))) ≡ lowest (drop 9 (rules (c .before .before .before .before .before .before .before .before .before .args .bytes .now)))
+past4 : (c : lts.Else4 claims reads.Pre reads.Post) → first-applying (drop 5 (rules (c .before .before .before .before .before .before .before .before .before .args .bytes .now))) ≡ first-applying (drop 9 (rules (c .before .before .before .before .before .before .before .before .before .args .bytes .now)))
 unfolding rules
 past4 c =
     let e : root-linked (header (c .before .before .before .before .before .before .before .before .before .args .bytes .now)) (c .before .before .before .before .before .before .before .before .before .args .bytes .now) ≡ false =
@@ -91,7 +91,7 @@ returns-4 c =
     sym (ap (λ (n : ℕ). answered n (c .before .before .before .before .before .before .before .before .before .args .sheet)) (past3 (c .before .before) ∙ stop _ _ e))
 
 returns-5 : tie.Need-returns-5
-unfolding rules lowest answered
+unfolding rules first-applying answered
 returns-5 c = sym (ap (λ (n : ℕ). answered n (c .before .before .before .before .before .before .before .before .before .args .sheet)) (past4 c))
 
 pub read-records-spec : {M : Type 1} → statement M

@@ -1,6 +1,7 @@
 -- `gz_bound` meets its contract: what the bound answers, as numbers.
 use mathlib.Core.Path.{sym, ap, _∙_}
-use Rattle.gazrieksne.specs.Plans.{bound-number, bound-answer}
+use Rattle.planner.specs.Bounds.{number as bound-number}
+use Rattle.gazrieksne.specs.Plans.{bound-answer}
 use borrow.Author.Needs.{needs}
 use Rattle.gazrieksne.proofs.plans.gz_bound.Statement.{statement}
 use Rattle.gazrieksne.proofs.plans.gz_bound.Tie as tie

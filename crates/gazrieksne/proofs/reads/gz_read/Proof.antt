@@ -1,6 +1,7 @@
 -- `gz_read` meets its contract: what the reader answers, as numbers.
 use mathlib.Core.Path.{sym, ap, _∙_}
-use Rattle.gazrieksne.specs.Reads.{read-number, read-counts}
+use Rattle.sheet.specs.Reading.{number as read-number}
+use Rattle.gazrieksne.specs.Reads.{read-counts}
 use borrow.Author.Needs.{needs}
 use Rattle.gazrieksne.proofs.reads.gz_read.Statement.{statement}
 use Rattle.gazrieksne.proofs.reads.gz_read.Tie as tie

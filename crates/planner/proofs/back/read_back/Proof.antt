@@ -4,11 +4,11 @@ use native.Mathlib.Omega.{arith}
 use mathlib.Core.Path.{_≡_}
 use borrow.Author.Needs.{needs}
 use lib.ListN.{length, getD, length-set}
-use Rattle.subsets.specs.Back.{seat}
+use Rattle.subsets.specs.Inner.Back.{seat}
 use Rattle.subsets.proofs.Back.{seat-below}
-use Rattle.embedding.specs.Charge.{net}
-use Rattle.planner.specs.Loaded.{held}
-use Rattle.planner.specs.Tables.{entry}
+use Rattle.embedding.specs.Inner.Charge.{net}
+use Rattle.planner.specs.Inner.Loaded.{held}
+use Rattle.planner.specs.Inner.Tables.{entry}
 use Rattle.planner.proofs.Written.{next-written}
 use Rattle.planner.proofs.back.read_back.Statement.{statement}
 use Rattle.planner.proofs.back.read_back.Tie as tie

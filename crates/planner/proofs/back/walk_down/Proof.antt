@@ -9,9 +9,9 @@ use borrow.Author.Needs.{needs}
 use lib.Bits.{bitAnd, and-le-r}
 use lib.ListN.{length}
 use Rattle.subsets.specs.Sets.{has}
-use Rattle.embedding.specs.Charge.{net}
-use Rattle.planner.specs.Loaded.{held}
-use Rattle.planner.specs.Tables.{entry}
+use Rattle.embedding.specs.Inner.Charge.{net}
+use Rattle.planner.specs.Inner.Loaded.{held}
+use Rattle.planner.specs.Inner.Tables.{entry}
 use Rattle.planner.proofs.Children.{child-is, child-above}
 use Rattle.planner.proofs.Walking.{Walked, to-walk, walk-less, walk-start, walk-other, walk-stays, walk-leaves, walk-end}
 use Rattle.planner.proofs.back.walk_down.Statement.{statement}

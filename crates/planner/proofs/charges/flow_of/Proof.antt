@@ -9,7 +9,7 @@ use lib.ListN.{getD}
 use Rattle.finite.specs.Below.{only}
 use Rattle.finite.proofs.Sums.{only-le}
 use Rattle.subsets.specs.Sets.{has}
-use Rattle.planner.specs.Sums.{flow-out}
+use Rattle.planner.specs.Inner.Sums.{flow-out}
 use Rattle.planner.proofs.charges.flow_of.Statement.{statement}
 use Rattle.planner.proofs.charges.flow_of.Tie as tie
 

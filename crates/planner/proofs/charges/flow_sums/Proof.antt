@@ -4,7 +4,7 @@ use native.Mathlib.Omega.{arith}
 use mathlib.Core.Path.{_≡_}
 use borrow.Author.Needs.{needs}
 use lib.ListN.{length, getD, length-set}
-use Rattle.planner.specs.Sums.{flow-out}
+use Rattle.planner.specs.Inner.Sums.{flow-out}
 use Rattle.planner.proofs.Written.{next-written}
 use Rattle.planner.proofs.charges.flow_sums.Statement.{statement}
 use Rattle.planner.proofs.charges.flow_sums.Tie as tie

@@ -4,7 +4,7 @@ use native.Mathlib.Omega.{arith}
 use native.Mathlib.Nat.{mul-le-mul}
 use borrow.Author.Tests.{le-leb, lt-leb}
 use Rattle.subsets.specs.Costs.{provided}
-use Rattle.subsets.specs.Figures.{figure}
+use Rattle.subsets.specs.Inner.Encoded.{figure}
 use Rattle.planner.proofs.charges.own_charge.Statement.{statement}
 use Rattle.planner.proofs.charges.own_charge.Tie as tie
 

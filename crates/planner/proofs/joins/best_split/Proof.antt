@@ -5,7 +5,7 @@ use mathlib.Core.Path.{_≡_, refl, sym, ap, _∙_}
 use borrow.Author.Needs.{needs}
 use lib.Bits.{bitAnd, and-self, and-le-l, and-le-r}
 use Rattle.subsets.specs.declared.Best.{Best}
-use Rattle.subsets.specs.Folds.{scan, best-split, after, tried}
+use Rattle.subsets.specs.Inner.Folds.{scan, best-split, after, tried}
 use Rattle.subsets.proofs.Sets.{Sub, sub-and}
 use Rattle.subsets.proofs.Figures.{counted-le}
 use Rattle.subsets.proofs.Folds.{try-at, scan-at, scan-next, scan-end}

@@ -3,7 +3,7 @@ use Prim.Native.Nat.{_-_}
 use borrow.Author.Needs.{needs}
 use Rattle.sheet.specs.Instance.{instance}
 use Rattle.sheet.proofs.Promises as promises
-use Rattle.planner.specs.Loaded.{no-cabinet, cabinet-of}
+use Rattle.planner.specs.Inner.Loaded.{no-cabinet, cabinet-of}
 use Rattle.planner.proofs.Columns.{column-none, loaded}
 use Rattle.planner.proofs.loading.load.Statement.{statement}
 use Rattle.planner.proofs.loading.load.Tie as tie

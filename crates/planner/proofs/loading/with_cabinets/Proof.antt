@@ -5,7 +5,7 @@ use mathlib.Core.Path.{_≡_, subst}
 use borrow.Author.Needs.{needs}
 use Rattle.sheet.specs.Instance.{instance}
 use Rattle.sheet.proofs.Promises.{well-formed}
-use Rattle.planner.specs.Loaded.{no-cabinet, cabinet-of, Loading}
+use Rattle.planner.specs.Inner.Loaded.{no-cabinet, cabinet-of, Loading}
 use Rattle.planner.proofs.Columns.{column-next}
 use Rattle.planner.proofs.loading.with_cabinets.Statement.{statement}
 use Rattle.planner.proofs.loading.with_cabinets.Tie as tie

@@ -5,7 +5,7 @@ use mathlib.Core.Path.{_≡_, subst}
 use borrow.Author.Needs.{needs}
 use Rattle.sheet.specs.Instance.{instance}
 use Rattle.sheet.proofs.Promises.{well-formed}
-use Rattle.planner.specs.Loaded.{Loading}
+use Rattle.planner.specs.Inner.Loaded.{Loading}
 use Rattle.planner.proofs.Columns.{column-next}
 use Rattle.planner.proofs.loading.with_services.Statement.{statement}
 use Rattle.planner.proofs.loading.with_services.Tie as tie

@@ -6,7 +6,7 @@ use mathlib.Core.Path.{_≡_, ap, subst}
 use borrow.Author.Needs.{needs}
 use Rattle.sheet.specs.Instance.{instance}
 use Rattle.sheet.proofs.Promises.{well-formed}
-use Rattle.planner.specs.Loaded.{Loading}
+use Rattle.planner.specs.Inner.Loaded.{Loading}
 use Rattle.planner.proofs.Columns.{column-next}
 use Rattle.planner.proofs.loading.with_streams.Statement.{statement}
 use Rattle.planner.proofs.loading.with_streams.Tie as tie

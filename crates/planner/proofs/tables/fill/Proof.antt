@@ -7,7 +7,7 @@ use native.Mathlib.Omega.{arith}
 use mathlib.Core.Path.{_≡_, refl, sym, _∙_}
 use borrow.Author.Needs.{needs}
 use lib.ListN.{length, take}
-use Rattle.planner.specs.Loaded.{held}
+use Rattle.planner.specs.Inner.Loaded.{held}
 use Rattle.planner.proofs.tables.fill.Statement.{statement}
 use Rattle.planner.proofs.tables.fill.Tie as tie
 

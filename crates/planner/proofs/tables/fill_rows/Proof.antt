@@ -4,7 +4,7 @@ use native.Mathlib.Omega.{arith}
 use mathlib.Core.Path.{_≡_, refl, _∙_, subst}
 use borrow.Author.Needs.{needs}
 use lib.ListN.{length}
-use Rattle.planner.specs.Loaded.{held}
+use Rattle.planner.specs.Inner.Loaded.{held}
 use Rattle.planner.proofs.Filling.{From, from-start, from-next, from-all, joins-small}
 use Rattle.planner.proofs.tables.fill_rows.Statement.{statement}
 use Rattle.planner.proofs.tables.fill_rows.Tie as tie

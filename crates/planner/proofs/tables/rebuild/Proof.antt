@@ -3,9 +3,9 @@ use Prim.Native.Nat.{ℕ, _+_, _-_, _^_}
 use native.Mathlib.Omega.{arith}
 use mathlib.Core.Path.{_≡_, refl, sym, _∙_, subst}
 use borrow.Author.Needs.{needs}
-use Rattle.embedding.specs.Charge.{net}
-use Rattle.planner.specs.Loaded.{held, cabinet-of}
-use Rattle.planner.specs.Tables.{Joinable, Rebuilt}
+use Rattle.embedding.specs.Inner.Charge.{net}
+use Rattle.planner.specs.Inner.Loaded.{held, cabinet-of}
+use Rattle.planner.specs.Inner.Tables.{Joinable, Rebuilt}
 use Rattle.planner.proofs.Charging.{demand-small}
 use Rattle.planner.proofs.Children.{child-is, child-not}
 use Rattle.planner.proofs.Parted.{Room, room, row-length, put-row}

@@ -3,9 +3,15 @@ use Prim.Native.Nat.{ℕ, _<_}
 use mathlib.Core.Path.{_≡_}
 use mathlib.Core.Bool.{Bool, true, _&&_, not}
 use lib.Dec.{eqb}
-use Rattle.subsets.specs.Sets.{has, keep}
-use Rattle.subsets.specs.Costs.{Cost, some, _⊕_, Le, charged, total-below}
+use Rattle.subsets.specs.Sets.{has}
+use Rattle.subsets.specs.Inner.Masks.{keep}
+use Rattle.subsets.specs.Costs.{Cost, some}
+use Rattle.subsets.specs.Inner.Totals.{_⊕_, Le, charged, total-below}
 use Rattle.subsets.specs.Tree.{under}
+
+-- every node but the root has a parent of smaller number
+abbrev pub Falls : (ℕ → ℕ) → Type 0
+Falls parent = (d : ℕ) → 0 < d → parent d < d
 
 -- r services and s nodes; what node c charges for the set of services on it, and what the link above c charges for the set under c
 pub record Net : Type 0 where

@@ -7,9 +7,10 @@ use mathlib.Core.List.{List}
 use lib.Dec.{ltb}
 use lib.ListN.{getD}
 use Rattle.finite.specs.Below.{sum-below}
-use Rattle.subsets.specs.Sets.{within}
+use Rattle.subsets.specs.Inner.Masks.{within}
 use Rattle.subsets.specs.Costs.{Cost}
-use Rattle.subsets.specs.Figures.{nothing, figure, weighing}
+use Rattle.subsets.specs.Inner.Encoded.{nothing, figure}
+use Rattle.subsets.specs.Figures.{weighing}
 use Rattle.subsets.specs.declared.Weighed.{Weighed}
 use Rattle.subsets.specs.declared.Best.{Best}
 

@@ -4,7 +4,7 @@ use mathlib.Core.Bool.{true, false, cond}
 use mathlib.Core.List.{List, [], _∷_}
 use lib.Dec.{eqb}
 use lib.Bits.{bitAnd}
-use Rattle.subsets.specs.Sets.{within}
+use Rattle.subsets.specs.Inner.Masks.{within}
 
 -- the subsets of x below n, each once, in falling order
 unfoldable pub falling : ℕ → ℕ → List ℕ

@@ -3,8 +3,8 @@ use Prim.Native.Nat.{ℕ, zero, suc}
 use mathlib.Core.Bool.{Bool, true, false, _&&_}
 use lib.Dec.{eqb, ltb}
 use Rattle.subsets.specs.Costs.{Cost, none}
-use Rattle.subsets.specs.Net.{Net}
-use Rattle.subsets.specs.Splits.{split-charge, least-split, winner}
+use Rattle.subsets.specs.Inner.Net.{Net}
+use Rattle.subsets.specs.Inner.Splits.{split-charge, least-split, winner}
 
 -- c is a child of p
 abbrev pub child : Net → ℕ → ℕ → Bool

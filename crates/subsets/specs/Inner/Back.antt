@@ -5,9 +5,9 @@ use mathlib.Core.Bool.{Bool, true, false}
 use lib.Bits.{bitAnd}
 use Rattle.subsets.specs.Sets.{has}
 use Rattle.subsets.specs.Costs.{Cost, some}
-use Rattle.subsets.specs.Net.{Net, charge, Sits}
-use Rattle.subsets.specs.Splits.{split-charge}
-use Rattle.subsets.specs.Rows.{child, row-at}
+use Rattle.subsets.specs.Inner.Net.{Net, charge, Sits}
+use Rattle.subsets.specs.Inner.Splits.{split-charge}
+use Rattle.subsets.specs.Inner.Rows.{child, row-at}
 
 -- the services of x that do not go to the child c: an entry is read as a subset of x, whatever it holds
 abbrev pub stays : (ℕ → ℕ → ℕ) → ℕ → ℕ → ℕ

@@ -2,8 +2,9 @@
 use Prim.Native.Nat.{ℕ, zero, suc, _-_}
 use mathlib.Core.Bool.{Bool, true, false, _&&_}
 use lib.Dec.{eqb}
-use Rattle.subsets.specs.Sets.{within}
-use Rattle.subsets.specs.Costs.{Cost, none, some, _⊕_, least-below}
+use Rattle.subsets.specs.Inner.Masks.{within}
+use Rattle.subsets.specs.Costs.{Cost, none, some, least-below}
+use Rattle.subsets.specs.Inner.Totals.{_⊕_}
 
 -- the least of F over the subsets of x
 unfoldable pub least-subset : (ℕ → Cost) → ℕ → Cost

@@ -4,7 +4,7 @@ use mathlib.Core.Path.{_≡_}
 use mathlib.Core.Bool.{Bool, true, false, _||_}
 use lib.Dec.{eqb}
 use Rattle.subsets.specs.Tree.{under}
-use Rattle.subsets.specs.Net.{Net}
+use Rattle.subsets.specs.Inner.Net.{Net}
 
 -- T with all that is under c
 abbrev pub joined : Net → (ℕ → Bool) → ℕ → ℕ → Bool

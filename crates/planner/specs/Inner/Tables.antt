@@ -8,14 +8,14 @@ use lib.Dec.{ltb}
 use lib.ListN.{length, getD}
 use Rattle.finite.specs.Below.{only, sum-below}
 use Rattle.subsets.specs.Sets.{has}
-use Rattle.subsets.specs.Figures.{figure}
-use Rattle.subsets.specs.Rows.{child, row-at, choice-at}
-use Rattle.subsets.specs.Count.{pairs, flagged, joins}
+use Rattle.subsets.specs.Inner.Encoded.{figure}
+use Rattle.subsets.specs.Inner.Rows.{child, row-at, choice-at}
+use Rattle.subsets.specs.Inner.Count.{pairs, flagged, joins}
 use Rattle.sheet.specs.Instance.{Instance, WellFormed}
 use Rattle.sheet.specs.declared.Cabinet.{Cabinet}
-use Rattle.embedding.specs.Charge.{leaving, entering, net}
+use Rattle.embedding.specs.Inner.Charge.{leaving, entering, net}
 use Rattle.embedding.specs.Splits.{weighed}
-use Rattle.planner.specs.Loaded.{cabinet-of}
+use Rattle.planner.specs.Inner.Loaded.{cabinet-of}
 
 -- the entry for cabinet p and the set x, where a row has so many entries
 abbrev pub entry : ℕ → List ℕ → ℕ → ℕ → ℕ

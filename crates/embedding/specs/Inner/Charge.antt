@@ -4,7 +4,7 @@ use mathlib.Core.Bool.{Bool, _&&_, not}
 use Rattle.finite.specs.Below.{only, sum-below}
 use Rattle.subsets.specs.Sets.{has}
 use Rattle.subsets.specs.Costs.{Cost, provided}
-use Rattle.subsets.specs.Net.{Net}
+use Rattle.subsets.specs.Inner.Net.{Net}
 use Rattle.sheet.specs.Instance.{Instance}
 use Rattle.embedding.specs.Plan.{fits, link-fits, fee, weight}
 

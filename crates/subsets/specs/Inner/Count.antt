@@ -6,8 +6,8 @@ use lib.Dec.{ltb}
 use Rattle.finite.specs.Below.{only, sum-below}
 use Rattle.subsets.specs.Sets.{subset}
 use Rattle.subsets.specs.Costs.{some, is-some}
-use Rattle.subsets.specs.Net.{Net, charge, Sits}
-use Rattle.subsets.specs.Rows.{child, row-at}
+use Rattle.subsets.specs.Inner.Net.{Net, charge, Sits}
+use Rattle.subsets.specs.Inner.Rows.{child, row-at}
 
 -- a can be placed on the part T with top v: some placing of it there has a charge
 abbrev pub Placed : Net → (ℕ → Bool) → ℕ → ℕ → Type 0

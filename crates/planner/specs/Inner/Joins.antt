@@ -3,7 +3,7 @@ use Prim.Native.Nat.{ℕ, _<_}
 use mathlib.Core.Path.{_≡_}
 use mathlib.Core.List.{List}
 use lib.ListN.{length, getD}
-use Rattle.subsets.specs.Folds.{best-split, counted-below}
+use Rattle.subsets.specs.Inner.Folds.{best-split, counted-below}
 
 -- the row and the child's choices after a join are the costs and the choices of the best splits, and every split that counts was counted
 pub record Joined (row child link row' choice' : List ℕ) (count : ℕ) : Type 0 where

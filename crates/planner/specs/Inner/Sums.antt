@@ -7,7 +7,7 @@ use lib.ListN.{getD}
 use Rattle.finite.specs.Below.{only, sum-below}
 use Rattle.subsets.specs.Sets.{has}
 use Rattle.subsets.specs.Costs.{provided}
-use Rattle.subsets.specs.Figures.{figure}
+use Rattle.subsets.specs.Inner.Encoded.{figure}
 use Rattle.sheet.specs.declared.Cabinet.{Cabinet}
 
 -- the demands of the services in x, of the first r

@@ -1,0 +1,62 @@
+-- The words of the demands: a refusal as it is given, a mapping of least cost, and memory after a call.
+use Prim.Native.Nat.{ℕ, _≤_, _<_}
+use mathlib.Core.Logic.{_⊎_}
+use mathlib.Core.Path.{_≡_}
+use mathlib.Core.Bool.{true, false}
+use mathlib.Core.List.{List}
+use lib.ListN.{length, getD}
+use Rattle.sheet.specs.Refusals.{refusal, number-of}
+use Rattle.sheet.specs.Instance.{Instance}
+use Rattle.sheet.specs.declared.Refusal.{Refusal}
+use Rattle.embedding.specs.Definition1.{Feasible, cost}
+use Rattle.embedding.specs.Limits.{Limits}
+use Rattle.embedding.specs.Road.{road}
+use Rattle.embedding.specs.Splits.{weighed}
+use Rattle.planner.specs.Answers.{entries}
+use Rattle.planner.specs.Lent.{used}
+use Rattle.planner.specs.declared.Planned.{Planned}
+use Rattle.planner.specs.declared.Planned.the-variants.{Plan, Refused}
+
+-- the refusal stands in the group of its number, and the number lies between two
+pub record Given (low high : ℕ) (f : Refusal) : Type 0 where
+  pub grouped : f ≡ refusal (number-of f)
+  pub least : low ≤ number-of f
+  pub most : number-of f ≤ high
+
+-- with some paths, of any make, π is a mapping that is feasible by Definition 1, keeps the limits, and costs k
+abbrev pub Maps : Instance → (ℕ → ℕ) → ℕ → Type 0
+Maps I π k = (ρ : ℕ → List ℕ) × Feasible (road I) π ρ × Limits I π ρ × (cost (road I) π ρ ≡ k)
+
+-- no rival costs less than k: no mapping at all that is feasible and keeps the limits
+abbrev pub NoneCheaper : Instance → ℕ → Type 0
+NoneCheaper I k = (π : ℕ → ℕ) (ρ : ℕ → List ℕ) → Feasible (road I) π ρ → Limits I π ρ → k ≤ cost (road I) π ρ
+
+-- no mapping is feasible and keeps the limits
+abbrev pub NoMapping : Instance → Type 0
+NoMapping I = (π : ℕ → ℕ) (ρ : ℕ → List ℕ) → Feasible (road I) π ρ → Limits I π ρ → ⊥
+
+-- the answer is a plan at the least cost of all mappings, or 12 where there is none; its count is that of the splits weighed
+abbrev pub Best : Instance → Planned → Type 0
+Best I a =
+    ((k : ℕ) × (a ≡ Plan k (weighed I)) × ((π : ℕ → ℕ) × Maps I π k) × NoneCheaper I k)
+    ⊎ ((a ≡ Refused (refusal 12) (weighed I)) × NoMapping I)
+
+-- the first n entries of a table are 0 now, and all others stay
+pub record Cleared (n : ℕ) (table table' : List ℕ) : Type 0 where
+  pub there : n ≤ length table
+  pub length-stays : length table' ≡ length table
+  pub first : (i : ℕ) → i < n → getD table' i 1 ≡ 0
+  pub rest : (i : ℕ) → n ≤ i → getD table' i 0 ≡ getD table i 0
+
+-- the first n places of the output may be written, and all others stay
+pub record Written (n : ℕ) (output output' : List ℕ) : Type 0 where
+  pub there : n ≤ length output
+  pub length-stays : length output' ≡ length output
+  pub rest : (i : ℕ) → n ≤ i → getD output' i 0 ≡ getD output i 0
+
+-- what a planning call leaves in the memory lent, by its answer: the tables are used with a plan and with 12
+pub record Left (I : Instance) (a : Planned) (output costs choices output' costs' choices' : List ℕ) : Type 0 where
+  pub cleared : used a ≡ true → Cleared (entries I) costs costs' × Cleared (entries I) choices choices'
+  pub untouched : used a ≡ false → (costs' ≡ costs) × (choices' ≡ choices)
+  pub planned : (k n : ℕ) → a ≡ Plan k n → Written (I .r) output output'
+  pub refused : (f : Refusal) (n : ℕ) → a ≡ Refused f n → output' ≡ output
