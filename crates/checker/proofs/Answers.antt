@@ -20,9 +20,9 @@ use Rattle.sheet.specs.declared.Reading.the-variants as readings
 use Rattle.sheet.proofs.Promises.{well-formed}
 use Rattle.sheet.proofs.Groups.{number-refusal, own-group, reading-group, first-between, reading-number}
 use Rattle.sheet.proofs.Order.{after-reader}
-use Rattle.embedding.specs.Plan.{in-range, cabinets-keep, links-keep, valid, plan-cost}
+use Rattle.embedding.specs.Plan.{place, in-range, cabinets-keep, links-keep, valid, plan-cost}
 use Rattle.embedding.proofs.Theorems.{cost-bound}
-use Rattle.checker.specs.Check.{place, rules, all-rules, answered, plan-checked, checked-after, checked}
+use Rattle.checker.specs.Check.{rules, all-rules, answered, plan-checked, checked-after, checked}
 use Rattle.checker.specs.Answers.{number, group, cost}
 use Rattle.checker.specs.declared.Checked.{Checked}
 use Rattle.checker.specs.declared.Checked.the-variants.{Accepted, Refused}

@@ -15,8 +15,8 @@ use Rattle.sheet.specs.declared.Refusal.{Refusal}
 use Rattle.sheet.specs.declared.Refusal.the-variants.{PlanWriter}
 use Rattle.sheet.specs.declared.Reading.{Reading}
 use Rattle.sheet.specs.declared.Reading.the-variants as readings
-use Rattle.embedding.specs.Plan.{in-range, cabinets-keep, links-keep, plan-cost}
-use Rattle.checker.specs.Check.{place, rules, answered, plan-checked, checked-after, checked}
+use Rattle.embedding.specs.Plan.{place, in-range, cabinets-keep, links-keep, plan-cost}
+use Rattle.checker.specs.Check.{rules, answered, plan-checked, checked-after, checked}
 use Rattle.checker.specs.Inner.Records.{Reads}
 use Rattle.checker.specs.Inner.Walk.{walked}
 use Rattle.checker.specs.declared.Checked.the-variants.{Accepted, Refused}

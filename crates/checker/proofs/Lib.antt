@@ -1,6 +1,5 @@
 -- Answers has the laws of the check's answers. The other files are what the proofs of the code share.
 pub mod Answers
-mod Range
 mod Placing
 mod Crossing
 mod Marks

@@ -21,15 +21,16 @@ use Rattle.sheet.specs.declared.Refusal.the-variants.{PlanWriter}
 use Rattle.sheet.specs.declared.Cabinet.{Cabinet}
 use Rattle.sheet.specs.declared.Stream.{Stream}
 use Rattle.embedding.specs.Road.{up, down}
-use Rattle.embedding.specs.Plan.{weight, link-fits, link-keeps, in-range, links-keep, cabinets-cost, links-cost, plan-cost}
+use Rattle.embedding.specs.Plan.{place, link-keeps, in-range, links-keep, cabinets-cost, links-cost, plan-cost}
 use Rattle.embedding.specs.Inner.Charge.{leaving, entering}
+use Rattle.embedding.proofs.Reckoning.{toll-by-price}
+use Rattle.embedding.proofs.Mappings.{range-test}
+use Rattle.embedding.proofs.Loads.{link-cost, link-keeps-by-flows, links-cost-by-links}
 use Rattle.embedding.proofs.Bound.{leaving-le, entering-le}
-use Rattle.embedding.proofs.Theorems.{load-by-cut, cost-by-links, cost-bound}
-use Rattle.checker.specs.Check.{place}
+use Rattle.embedding.proofs.Theorems.{cost-bound}
 use Rattle.checker.specs.Inner.Records.{cabinet-of, stream-of, Marked}
 use Rattle.checker.specs.Inner.Walk.{walked}
 use Rattle.checker.specs.declared.Checked.the-variants.{Accepted, Refused}
-use Rattle.checker.proofs.Range.{placed-at}
 
 only-true : (n : ℕ) → only true n ≡ n
 unfolding only
@@ -50,16 +51,12 @@ module _ (I : Instance) (π : ℕ → ℕ) where
   abbrev pub down-load : ℕ → ℕ → ℕ
   down-load c n = sum-below n (down-share c)
 
-  -- what it costs
-  abbrev pub toll : ℕ → ℕ
-  toll c = up-load c (I .q) * I .up-price c + down-load c (I .q) * I .down-price c
-
   -- between two links: the links below c are not overfull, and this is the cost so far
   pub record Passed (c cost : ℕ) : Type 0 where
     pub above : 0 < c
     pub within : c ≤ I .s
     pub kept : all-below c (λ d. ltb 0 d ⇒ link-keeps I π d) ≡ true
-    pub cost-is : cost ≡ cabinets-cost I π + sum-below c (λ d. only (ltb 0 d) (toll d))
+    pub cost-is : cost ≡ cabinets-cost I π + sum-below c (λ d. only (ltb 0 d) (link-cost I π d))
 
   -- between two streams of the link above c: j of them are counted, and no direction is overfull yet
   pub record Counting (c cost : ℕ) (link : Cabinet) (marks : List Bool) (up down j : ℕ) : Type 0 where
@@ -98,7 +95,7 @@ module _ (I : Instance) (π : ℕ → ℕ) where
 
     -- the ends of stream j stand on cabinets of the road
     pub ends : (j : ℕ) → j < I .q → (π (I .from j) < I .s) × (π (I .to j) < I .s)
-    ends j h = (placed-at I π range (I .from j) (W .from-service j h), placed-at I π range (I .to j) (W .to-service j h))
+    ends j h = (range-test I π .0 range (I .from j) (W .from-service j h), range-test I π .0 range (I .to j) (W .to-service j h))
 
     module _ {c cost : ℕ} {link : Cabinet} {marks : List Bool} {up down j : ℕ} (s : Counting c cost link marks up down j) (h : j < I .q) where
       pub up-next : (t : Stream) (n : ℕ) → t ≡ stream-of I j → n ≡ only (getD marks (π (t .from)) false && not (getD marks (π (t .to)) false)) (t .demand) → up + n ≡ up-load c (j + 1)
@@ -124,11 +121,15 @@ module _ (I : Instance) (π : ℕ → ℕ) where
     unfolding entering
     down-le c n h = omega (arith, entering-le I W 10000 (I .load) (W .loads) (λ i. under (I .parent) c (π i)), sum-part n (I .q) (down-share c) h)
 
-    -- ---- the test of a link
+    -- ---- the test of a link, and its cost
 
     link-test : (c : ℕ) → 0 < c → link-keeps I π c ≡ leb (up-load c (I .q)) (I .up-capacity c) && leb (down-load c (I .q)) (I .down-capacity c)
-    unfolding link-keeps link-fits weight
-    link-test c z = ap₂ (λ (m n : ℕ). leb m (I .up-capacity c) && leb n (I .down-capacity c)) (load-by-cut I W π range c z .0) (load-by-cut I W π range c z .1)
+    unfolding leaving entering
+    link-test = link-keeps-by-flows I W π (range-test I π .0 range)
+
+    link-cost-is : (c : ℕ) → link-cost I π c ≡ up-load c (I .q) * I .up-price c + down-load c (I .q) * I .down-price c
+    unfolding leaving entering
+    link-cost-is c = toll-by-price I c (up-load c (I .q)) (down-load c (I .q))
 
     -- a link whose first n streams are too much
     too-much : (c n : ℕ) → 0 < c → c < I .s → n ≤ I .q → (I .up-capacity c < up-load c n) ⊎ (I .down-capacity c < down-load c n) → links-keep I π ≡ false
@@ -211,34 +212,34 @@ module _ (I : Instance) (π : ℕ → ℕ) where
             cost-is = omega (
               arith,
               s .passed .cost-is,
-              sum-next c (λ d. only (ltb 0 d) (toll d)),
+              sum-next c (λ d. only (ltb 0 d) (link-cost I π d)),
               counted c (s .passed .above),
+              link-cost-is c,
               ap₂ (λ (x y : ℕ). x * y) u (ap (λ (k : Cabinet). k .«up_price») (s .link-is)),
               ap₂ (λ (x y : ℕ). x * y) d (ap (λ (k : Cabinet). k .«down_price») (s .link-is)),
             );
           }
         where
-          counted : (c : ℕ) → 0 < c → only (ltb 0 c) (toll c) ≡ toll c
-          counted c z = ap (λ (t : Bool). only t (toll c)) (lt-ltb 0 c z) ∙ only-true (toll c)
+          counted : (c : ℕ) → 0 < c → only (ltb 0 c) (link-cost I π c) ≡ link-cost I π c
+          counted c z = ap (λ (t : Bool). only t (link-cost I π c)) (lt-ltb 0 c z) ∙ only-true (link-cost I π c)
 
     -- ---- the end
 
-    by-links : links-cost I π ≡ sum-below (I .s) (λ d. only (ltb 0 d) (toll d))
-    unfolding leaving entering
-    by-links = cost-by-links I W π range
+    by-links : links-cost I π ≡ sum-below (I .s) (λ d. only (ltb 0 d) (link-cost I π d))
+    by-links = links-cost-by-links I W π (range-test I π .0 range)
 
     -- the cost so far is below 10^15
     pub cost-low : (c cost : ℕ) → Passed c cost → cost < 10 ^ 15
     unfolding plan-cost
     cost-low c cost p =
-        omega (arith, p .cost-is, by-links, cost-bound I W π range, sum-part c (I .s) (λ d. only (ltb 0 d) (toll d)) (p .within))
+        omega (arith, p .cost-is, by-links, cost-bound I W π range, sum-part c (I .s) (λ d. only (ltb 0 d) (link-cost I π d)) (p .within))
 
     -- all links are passed
     pub accepted : (c cost : ℕ) → Passed c cost → I .s ≤ c → Accepted cost ≡ walked I π
     unfolding walked links-keep plan-cost
     accepted c cost p h =
         let e : c ≡ I .s = omega (arith, p .within) in
-        let k : cost ≡ plan-cost I π = omega (arith, p .cost-is, by-links, ap (λ (n : ℕ). sum-below n (λ d. only (ltb 0 d) (toll d))) e) in
+        let k : cost ≡ plan-cost I π = omega (arith, p .cost-is, by-links, ap (λ (n : ℕ). sum-below n (λ d. only (ltb 0 d) (link-cost I π d))) e) in
         simp (sym (all-end (I .s) c (λ d. ltb 0 d ⇒ link-keeps I π d) (p .within) h (p .kept))) (ap Accepted k)
 
     -- the walk was left
@@ -254,6 +255,6 @@ legs I plan W l range j h t e =
     let g : t .to < I .r = omega (arith, W .to-service j h, ap (λ (t : Stream). t .to) e) in (
       omega arith,
       omega arith,
-      omega (arith, placed-at I (place plan) range (t .from) f, W .cabinets),
-      omega (arith, placed-at I (place plan) range (t .to) g, W .cabinets),
+      omega (arith, range-test I (place plan) .0 range (t .from) f, W .cabinets),
+      omega (arith, range-test I (place plan) .0 range (t .to) g, W .cabinets),
     )

@@ -2,7 +2,7 @@
 use Prim.Native.Nat.{ℕ, zero, suc}
 use mathlib.Core.Bool.{not}
 use mathlib.Core.List.{List, [], _∷_, _++_}
-use lib.ListN.{length, getD}
+use lib.ListN.{length}
 use lib.Dec.{eqb}
 use Rattle.sheet.specs.Refusals.{Rule, first-applying, refusal}
 use Rattle.sheet.specs.Reading as reader
@@ -10,13 +10,9 @@ use Rattle.sheet.specs.Reading.{reading}
 use Rattle.sheet.specs.Instance.{Instance, instance}
 use Rattle.sheet.specs.declared.Reading.{Reading}
 use Rattle.sheet.specs.declared.Reading.the-variants as readings
-use Rattle.embedding.specs.Plan.{in-range, cabinets-keep, links-keep, plan-cost}
+use Rattle.embedding.specs.Plan.{place, in-range, cabinets-keep, links-keep, plan-cost}
 use Rattle.checker.specs.declared.Checked.{Checked}
 use Rattle.checker.specs.declared.Checked.the-variants.{Accepted, Refused}
-
--- the cabinet that a plan gives service i
-abbrev pub place : List ℕ → ℕ → ℕ
-place plan i = getD plan i 0
 
 -- the refusals of a plan: it hasn't exactly r places; a cabinet number is not below s; a cabinet is overfull; a link direction is overfull
 unfoldable pub rules : Instance → List ℕ → List Rule

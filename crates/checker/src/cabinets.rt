@@ -2,10 +2,9 @@
 ghost use mathlib.Core.Path.{_≡_};
 ghost use lib.Dec.{eqb, ltb};
 ghost use lib.ListN.{length};
-ghost use Rattle.finite.specs.Below.{only, sum-below, all-below};
+ghost use Rattle.finite.specs.Below.{only, all-below};
 ghost use Rattle.sheet.specs.Instance.{instance};
-ghost use Rattle.embedding.specs.Plan.{cabinets-keep, cabinets-cost};
-ghost use Rattle.checker.specs.Check.{place};
+ghost use Rattle.embedding.specs.Plan.{place, demand-of, cabinets-keep, cabinets-cost};
 ghost use Rattle.checker.specs.Inner.Records.{Placed};
 use crate::records::cabinet;
 use crate::records::demand;
@@ -38,10 +37,10 @@ pub(crate) fn is_in_range(plan: &[u16], cabinets: usize) -> bool
     true
 }
 
-// The demands that the plan puts on cabinet c.
+// The demand that the plan puts on cabinet c.
 fn placed_demand(sheet: Sheet, bytes: &[u8], plan: &[u16], c: usize) -> u64
     requires { ⌜ Placed (now bytes) sheet (now plan) ⌝ }
-    ensures { λ n. ⌜ n ≡ sum-below (instance (now (bytes .entry)) .r) (λ i. only (eqb (place (now (plan .entry)) i) c) (instance (now (bytes .entry)) .demand i)) ⌝ }
+    ensures { λ n. ⌜ n ≡ demand-of (instance (now (bytes .entry))) (λ i. eqb (place (now (plan .entry)) i) c) ⌝ }
 {
     let services = sheet.services();
     let mut sum = 0;

@@ -1,5 +1,8 @@
 // Reads a planning sheet from standard input and prints its counts and records, or the refusal.
 
+// The most bytes that are taken as a sheet.
+const LONGEST: usize = 4096;
+
 fn wide(n: u16) -> u64 {
     n as u64
 }
@@ -106,9 +109,9 @@ fn describe(bytes: &[u8]) {
 }
 
 fn main() {
-    let mut bytes = [0u8; 4097];
+    let mut bytes = [0u8; LONGEST + 1];
     let n = io::read_full(0, &mut bytes);
-    if 4096 < n {
+    if LONGEST < n {
         refused(17);
         return;
     }

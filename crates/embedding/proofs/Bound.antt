@@ -2,7 +2,7 @@
 use Prim.Native.Nat.{ℕ, _*_, _^_, _≤_, _<_}
 use native.Mathlib.Nat.{mul-le-mul, mul-le-mul-right}
 use native.Mathlib.Omega.{arith}
-use mathlib.Core.Path.{_≡_}
+use mathlib.Core.Path.{_≡_, sym, _∙_}
 use mathlib.Core.Bool.{Bool, true, _&&_, not}
 use lib.Dec.{ltb}
 use Rattle.finite.specs.Below.{only, sum-below}
@@ -14,10 +14,11 @@ use Rattle.subsets.specs.Inner.Net.{charge}
 use Rattle.subsets.proofs.Provided.{provided-some}
 use Rattle.subsets.proofs.Bound as bounds
 use Rattle.sheet.specs.Instance.{Instance, WellFormed}
-use Rattle.embedding.specs.Plan.{fee, in-range, cabinets-cost, plan-cost}
+use Rattle.embedding.specs.Plan.{demand-of, toll, in-range, cabinets-cost, plan-cost}
 use Rattle.embedding.specs.Inner.Charge.{leaving, entering, cabinet-charge, link-charge, net}
+use Rattle.embedding.proofs.Reckoning.{demand-sum, cabinets-cost-sum, charge-by-demand, toll-by-price}
 use Rattle.embedding.proofs.Mappings.{range-test}
-use Rattle.embedding.proofs.Loads.{toll, links-cost-by-links}
+use Rattle.embedding.proofs.Loads.{link-cost, links-cost-by-links}
 
 -- up to k numbers of up to m each
 some-of : (n k m : ℕ) (t : ℕ → Bool) (f : ℕ → ℕ) → n ≤ k → ((j : ℕ) → f j ≤ m) → sum-below n (λ j. only (t j) (f j)) ≤ k * m
@@ -25,9 +26,9 @@ some-of n k m t f h l =
     omega (arith, sum-le n m (λ j. only (t j) (f j)) (λ j _. omega (arith, only-le (t j) (f j), l j)), mul-le-mul-right m h)
 
 module _ (I : Instance) (W : WellFormed I) where
-  -- the demands of a set sum to at most 100,000
-  pub demand-le : (x : ℕ → Bool) → sum-below (I .r) (λ i. only (x i) (I .demand i)) ≤ 10 * 10000
-  demand-le x = some-of (I .r) 10 10000 x (I .demand) (W .services) (W .demands)
+  -- the demand of a set is at most 100,000
+  pub demand-le : (x : ℕ → Bool) → demand-of I x ≤ 10 * 10000
+  demand-le x = omega (arith, demand-sum I x, some-of (I .r) 10 10000 x (I .demand) (W .services) (W .demands))
 
   -- what leaves a set, where f is at most m
   pub leaving-le : (m : ℕ) (f : ℕ → ℕ) → ((j : ℕ) → f j ≤ m) → (x : ℕ → Bool) → leaving I f x ≤ 100 * m
@@ -39,21 +40,27 @@ module _ (I : Instance) (W : WellFormed I) where
   unfolding entering
   entering-le m f h x = some-of (I .q) 100 m (λ j. x (I .to j) && not (x (I .from j))) f (W .streams) h
 
+  -- what a link charges for what leaves and enters a set
+  tolls-le : (c : ℕ) (x : ℕ → Bool) → toll I c (leaving I (I .load) x) (entering I (I .load) x) ≤ 20000000000
+  tolls-le c x = omega (
+    arith,
+    toll-by-price I c (leaving I (I .load) x) (entering I (I .load) x),
+    mul-le-mul (leaving-le 10000 (I .load) (W .loads) x) (W .up-prices c),
+    mul-le-mul (entering-le 10000 (I .load) (W .loads) x) (W .down-prices c),
+  )
+
 module _ (I : Instance) (W : WellFormed I) (π : ℕ → ℕ) where
-  toll-le : (c : ℕ) → toll I π c ≤ 20000000000
-  toll-le c =
-      let x : ℕ → Bool = λ i. under (I .parent) c (π i) in
-      omega (arith, mul-le-mul (leaving-le I W 10000 (I .load) (W .loads) x) (W .up-prices c), mul-le-mul (entering-le I W 10000 (I .load) (W .loads) x) (W .down-prices c))
+  link-cost-le : (c : ℕ) → link-cost I π c ≤ 20000000000
+  link-cost-le c = tolls-le I W c (λ i. under (I .parent) c (π i))
 
   cabinets-le : cabinets-cost I π ≤ 1000000000
-  unfolding cabinets-cost fee
-  cabinets-le = omega (arith, W .services, sum-le (I .r) 100000000 (λ i. I .demand i * I .price (π i)) (λ i k. mul-le-mul (W .demands i) (W .prices (π i))))
+  cabinets-le = omega (arith, W .services, cabinets-cost-sum I π, sum-le (I .r) 100000000 (λ i. I .demand i * I .price (π i)) (λ i k. mul-le-mul (W .demands i) (W .prices (π i))))
 
-  links-le : sum-below (I .s) (λ c. only (ltb 0 c) (toll I π c)) ≤ 4000000000000
+  links-le : sum-below (I .s) (λ c. only (ltb 0 c) (link-cost I π c)) ≤ 4000000000000
   links-le = omega (
     arith,
     W .cabinets,
-    sum-le (I .s) 20000000000 (λ c. only (ltb 0 c) (toll I π c)) (λ c k. omega (arith, only-le (ltb 0 c) (toll I π c), toll-le c)),
+    sum-le (I .s) 20000000000 (λ c. only (ltb 0 c) (link-cost I π c)) (λ c k. omega (arith, only-le (ltb 0 c) (link-cost I π c), link-cost-le c)),
   )
 
   -- the cost of a plan in range is below 10^15
@@ -64,24 +71,13 @@ module _ (I : Instance) (W : WellFormed I) (π : ℕ → ℕ) where
 module _ (I : Instance) (W : WellFormed I) where
   -- what a cabinet charges for a set
   pub cabinet-charge-le : (c x n : ℕ) → cabinet-charge I c x ≡ some n → n ≤ 1000000000
-  unfolding cabinet-charge fee
-  cabinet-charge-le c x n e = omega (
-    arith,
-    W .services,
-    provided-some _ _ n .0 e .1,
-    sum-le (I .r) 100000000 (λ i. only (has x i) (I .demand i * I .price c)) (λ i k.
-        omega (arith, only-le (has x i) (I .demand i * I .price c), mul-le-mul (W .demands i) (W .prices c))),
-  )
+  cabinet-charge-le c x n e =
+      omega (arith, provided-some _ _ n .0 (sym (charge-by-demand I c x) ∙ e) .1, mul-le-mul (demand-le I W (has x)) (W .prices c))
 
   -- what a link charges for a set
   pub link-charge-le : (c x n : ℕ) → link-charge I c x ≡ some n → n ≤ 20000000000
   unfolding link-charge
-  link-charge-le c x n e = omega (
-    arith,
-    provided-some _ _ n .0 e .1,
-    mul-le-mul (leaving-le I W 10000 (I .load) (W .loads) (has x)) (W .up-prices c),
-    mul-le-mul (entering-le I W 10000 (I .load) (W .loads) (has x)) (W .down-prices c),
-  )
+  link-charge-le c x n e = omega (arith, provided-some _ _ n .0 e .1, tolls-le I W c (has x))
 
   -- the charge of a placing on a part is none or below 10^15
   pub charge-bound : (T : ℕ → Bool) (v x : ℕ) (π : ℕ → ℕ) (n : ℕ) → v < I .s → charge (net I) T v x π ≡ some n → n < 10 ^ 15

@@ -1,5 +1,5 @@
 -- The charges of cabinets and links, summed over a part of the tree, are a number exactly when the placing keeps the part's capacities. Over the whole tree and for all services that number is the plan's cost.
-use Prim.Native.Nat.{ℕ, zero, suc, _+_, _*_, _≤_, _<_}
+use Prim.Native.Nat.{ℕ, zero, suc, _+_, _≤_, _<_}
 use native.Mathlib.Omega.{arith}
 use mathlib.Core.Logic.{_≢_, _↔_}
 use mathlib.Core.Path.{_≡_, refl, sym, ap, ap₂, _∙_}
@@ -19,14 +19,14 @@ use Rattle.subsets.specs.Inner.Net as nets
 use Rattle.subsets.specs.Inner.Net.{on, below, charge, Sits}
 use Rattle.subsets.proofs.Tree.{under-small}
 use Rattle.sheet.specs.Instance.{Instance, WellFormed}
-use Rattle.embedding.specs.Plan.{fits, link-fits, fee, weight, link-keeps, in-range, cabinets-keep, links-keep, valid, cabinets-cost, plan-cost, worth}
+use Rattle.embedding.specs.Plan.{admits, link-fits, fee, toll, weight, link-keeps, in-range, cabinets-keep, links-keep, valid, cabinets-cost, plan-cost, worth}
 use Rattle.embedding.specs.Splits.{stands, keeps}
 use Rattle.embedding.specs.Inner.Charge.{cabinet-charge, link-charge, net}
 use Rattle.subsets.proofs.Sets.{has-keep, has-full}
 use Rattle.subsets.proofs.Provided.{provided-add, charged-provided, total-provided, provided-some}
 use Rattle.embedding.proofs.Mappings.{InRange}
-use Rattle.embedding.proofs.Loads.{toll, link-keeps-by-cut, links-cost-by-links}
-use Rattle.embedding.proofs.Services.{fits-ext, leaving-ext, entering-ext, link-keeps-ext, toll-ext}
+use Rattle.embedding.proofs.Loads.{link-cost, link-keeps-by-cut, links-cost-by-links}
+use Rattle.embedding.proofs.Services.{admits-ext, leaving-ext, entering-ext, link-keeps-ext, link-cost-ext}
 
 -- the whole tree, as a part
 abbrev pub everywhere : ℕ → Bool
@@ -48,7 +48,7 @@ fees I x π c = sum-below (I .r) (λ i. only (has x i && eqb (π i) c) (fee I c 
 
 -- what a placing costs on a part
 unfoldable pub part-cost : Instance → (ℕ → Bool) → ℕ → ℕ → (ℕ → ℕ) → ℕ
-part-cost I T v x π = sum-below (I .s) (λ c. only (T c) (fees I x π c)) + sum-below (I .s) (λ c. only (inner I T c) (toll I (stands I x v π) c))
+part-cost I T v x π = sum-below (I .s) (λ c. only (T c) (fees I x π c)) + sum-below (I .s) (λ c. only (inner I T c) (link-cost I (stands I x v π) c))
 
 module _ (I : Instance) (W : WellFormed I) (T : ℕ → Bool) (v : ℕ) (P : Part I T v) where
   -- ---- the links between cabinets of the part are those above all but the top
@@ -92,10 +92,10 @@ module _ (I : Instance) (W : WellFormed I) (T : ℕ → Bool) (v : ℕ) (P : Par
     has-on : (c i : ℕ) → i < I .r → has (on (net I) π x c) i ≡ has x i && eqb (π i) c
     has-on c = has-keep (I .r) (λ i. eqb (π i) c) x
 
-    cabinet-charge-on : (c : ℕ) → cabinet-charge I c (on (net I) π x c) ≡ provided (fits I c (λ i. has x i && eqb (π i) c)) (fees I x π c)
+    cabinet-charge-on : (c : ℕ) → cabinet-charge I c (on (net I) π x c) ≡ provided (admits I c (λ i. has x i && eqb (π i) c)) (fees I x π c)
     unfolding cabinet-charge
     cabinet-charge-on c =
-        ap₂ provided (fits-ext I W (has (on (net I) π x c)) (λ i. has x i && eqb (π i) c) (has-on c) c)
+        ap₂ provided (admits-ext I W (has (on (net I) π x c)) (λ i. has x i && eqb (π i) c) (has-on c) c)
         (sum-ext (I .r) _ _ (λ i k. ap (λ (t : Bool). only t (fee I c i)) (has-on c i k)))
 
     -- ---- a link
@@ -108,7 +108,7 @@ module _ (I : Instance) (W : WellFormed I) (T : ℕ → Bool) (v : ℕ) (P : Par
         go true = refl
         go false = sym (under-small (I .parent) (W .parents) c v l)
 
-    link-charge-below : (c : ℕ) → v < c → link-charge I c (below (net I) π x c) ≡ provided (link-keeps I (stands I x v π) c) (toll I (stands I x v π) c)
+    link-charge-below : (c : ℕ) → v < c → link-charge I c (below (net I) π x c) ≡ provided (link-keeps I (stands I x v π) c) (link-cost I (stands I x v π) c)
     unfolding link-charge
     link-charge-below c l =
         let y : ℕ → Bool = has (below (net I) π x c) in
@@ -117,15 +117,15 @@ module _ (I : Instance) (W : WellFormed I) (T : ℕ → Bool) (v : ℕ) (P : Par
         ap₂ provided
         (ap₂ (link-fits I c) (leaving-ext I W y z e (weight I)) (entering-ext I W y z e (weight I))
         ∙ sym (link-keeps-by-cut I W (stands I x v π) stands-placed c (omega arith)))
-        (ap₂ (λ (m n : ℕ). m * I .up-price c + n * I .down-price c) (leaving-ext I W y z e (I .load)) (entering-ext I W y z e (I .load)))
+        (ap₂ (toll I c) (leaving-ext I W y z e (I .load)) (entering-ext I W y z e (I .load)))
 
     link-charged : (c : ℕ) → charged (T c && not (eqb c v)) (link-charge I c (below (net I) π x c))
-        ≡ provided (inner I T c ⇒ link-keeps I (stands I x v π) c) (only (inner I T c) (toll I (stands I x v π) c))
+        ≡ provided (inner I T c ⇒ link-keeps I (stands I x v π) c) (only (inner I T c) (link-cost I (stands I x v π) c))
     unfolding charged only _⇒_ provided
     link-charged c = ap (λ (b : Bool). charged b (link-charge I c (below (net I) π x c))) (inner-not-top c) ∙ go (inner I T c) refl
       where
         go : (b : Bool) → inner I T c ≡ b → charged b (link-charge I c (below (net I) π x c))
-            ≡ provided (b ⇒ link-keeps I (stands I x v π) c) (only b (toll I (stands I x v π) c))
+            ≡ provided (b ⇒ link-keeps I (stands I x v π) c) (only b (link-cost I (stands I x v π) c))
         go true i = link-charge-below c (inner-above c i)
         go false i = refl
 
@@ -143,11 +143,11 @@ module _ (I : Instance) (W : WellFormed I) (T : ℕ → Bool) (v : ℕ) (P : Par
     pub part-charges : charge (net I) T v x π ≡ provided (keeps I T v x π) (part-cost I T v x π)
     unfolding nets.charge keeps part-cost Sat
     part-charges =
-        let C : ℕ → Bool = λ c. T c ⇒ fits I c (λ i. has x i && eqb (π i) c) in
+        let C : ℕ → Bool = λ c. T c ⇒ admits I c (λ i. has x i && eqb (π i) c) in
         let L : ℕ → Bool = λ c. inner I T c ⇒ link-keeps I (stands I x v π) c in
         ap₂ _⊕_
         (total-provided (I .s) _ C (λ c. only (T c) (fees I x π c)) (λ c k. ap (charged (T c)) (cabinet-charge-on c) ∙ charged-provided (T c) _ _))
-        (total-provided (I .s) _ L (λ c. only (inner I T c) (toll I (stands I x v π) c)) (λ c k. link-charged c))
+        (total-provided (I .s) _ L (λ c. only (inner I T c) (link-cost I (stands I x v π) c)) (λ c k. link-charged c))
         ∙ provided-add (all-below (I .s) C) (all-below (I .s) L) _ _
         ∙ ap (λ (t : Bool). provided (t && (all-below (I .s) C && all-below (I .s) L)) (part-cost I T v x π)) (sym sits-test)
 
@@ -161,12 +161,17 @@ module _ (I : Instance) (W : WellFormed I) (π : ℕ → ℕ) (placed : InRange 
   on-all : (c i : ℕ) → i < I .r → has (full (I .r)) i && eqb (π i) c ≡ eqb (π i) c
   on-all c i k = ap (λ (t : Bool). t && eqb (π i) c) (has-full (I .r) i k)
 
+  -- every cabinet admits what a plan puts there exactly when none is overfull
+  admits-all : all-below (I .s) (λ c. admits I c (λ i. eqb (π i) c)) ≡ cabinets-keep I π
+  unfolding admits cabinets-keep
+  admits-all = refl
+
   keeps-all : keeps I everywhere 0 (full (I .r)) π ≡ valid I π
-  unfolding keeps valid in-range cabinets-keep links-keep _⇒_
+  unfolding keeps valid in-range links-keep _⇒_
   keeps-all =
       ap₂ _&&_ (all-ext (I .r) _ _ (λ i k. ap (λ (t : Bool). t ⇒ ltb (π i) (I .s)) (has-full (I .r) i k)))
       (ap₂ _&&_
-      (all-ext (I .s) _ _ (λ c k. fits-ext I W (λ i. has (full (I .r)) i && eqb (π i) c) (λ i. eqb (π i) c) (on-all c) c))
+      (all-ext (I .s) _ _ (λ c k. admits-ext I W (λ i. has (full (I .r)) i && eqb (π i) c) (λ i. eqb (π i) c) (on-all c) c) ∙ admits-all)
       (all-ext (I .s) _ _ (λ c k. ap₂ _⇒_ (and-true (ltb 0 c)) (link-keeps-ext I W (stands I (full (I .r)) 0 π) π stands-all c))))
 
   -- only the cabinet where it is charges a service
@@ -190,7 +195,7 @@ module _ (I : Instance) (W : WellFormed I) (π : ℕ → ℕ) (placed : InRange 
   unfolding part-cost plan-cost only
   cost-all =
       ap₂ _+_ cabinets-all
-      (sum-ext (I .s) _ _ (λ c k. ap₂ only (and-true (ltb 0 c)) (toll-ext I W (stands I (full (I .r)) 0 π) π stands-all c))
+      (sum-ext (I .s) _ _ (λ c k. ap₂ only (and-true (ltb 0 c)) (link-cost-ext I W (stands I (full (I .r)) 0 π) π stands-all c))
       ∙ sym (links-cost-by-links I W π placed))
 
   whole : Part I everywhere 0

@@ -3,6 +3,7 @@ pub mod Cases
 pub mod Edges
 pub mod Paths
 pub mod Feasible
+pub mod Reckoning
 pub mod Mappings
 pub mod Cut
 pub mod Loads

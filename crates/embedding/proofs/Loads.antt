@@ -3,9 +3,9 @@ use Prim.Native.Nat.{ℕ, zero, suc, _+_, _-_, _*_, _<_}
 use native.Mathlib.Nat.{zero-mul, one-mul, add-mul, mul-assoc}
 use native.Mathlib.Omega.{arith}
 use mathlib.Core.Path.{_≡_, refl, sym, ap, ap₂, _∙_}
-use mathlib.Core.Bool.{Bool, true, false}
+use mathlib.Core.Bool.{Bool, true, false, _&&_}
 use mathlib.Core.List.{List, [], _∷_}
-use lib.Dec.{eqb, ltb}
+use lib.Dec.{eqb, ltb, leb}
 use borrow.Author.Tests.{eqb-true, lt-ltb, ltb-true}
 use Rattle.finite.specs.Below.{only, sum-below, sum-over}
 use Rattle.finite.proofs.Sums.{sum-ext, sum-add, sum-zero, sum-one, sum-mul, sum-swap}
@@ -13,16 +13,15 @@ use Rattle.subsets.specs.Tree.{under}
 use Rattle.sheet.specs.Instance.{Instance, WellFormed}
 use Rattle.embedding.specs.Definition1.{Graph, Walk}
 use Rattle.embedding.specs.Road.{up, down, edge-price, tree}
-use Rattle.embedding.specs.Plan.{routes, link-fits, weight, carried, link-keeps, links-cost}
+use Rattle.embedding.specs.Plan.{routes, link-fits, toll, weight, carried, link-keeps, links-cost}
 use Rattle.embedding.specs.Inner.Charge.{leaving, entering}
 use Rattle.embedding.proofs.Edges.{price-up, price-down}
+use Rattle.embedding.proofs.Reckoning.{only-mul, link-fits-by-flows, toll-by-price}
 use Rattle.embedding.proofs.Mappings.{InRange, route-simple}
 use Rattle.embedding.proofs.Cut.{times, member-times, leaves, cut}
 
-only-mul : (b : Bool) (x : ℕ) → only b 1 * x ≡ only b x
-unfolding only
-only-mul true x = one-mul x
-only-mul false x = zero-mul x
+only-once : (b : Bool) (x : ℕ) → only b 1 * x ≡ only b x
+only-once b x = only-mul b 1 x ∙ ap (only b) (one-mul x)
 
 -- a sum over the edges of a walk, by how often each edge of the graph is on it
 histogram : (G : Graph) (f : ℕ → ℕ) (l : List ℕ) (a b : ℕ) → Walk G a l b → sum-over f l ≡ sum-below (G .edges) (λ e. times e l * f e)
@@ -52,10 +51,8 @@ by-cabinets (suc n) g =
     )
 
 -- what the link above c costs under the plan π: load × price, in each direction
-abbrev pub toll : Instance → (ℕ → ℕ) → ℕ → ℕ
-toll I π c =
-    leaving I (I .load) (λ i. under (I .parent) c (π i)) * I .up-price c
-    + entering I (I .load) (λ i. under (I .parent) c (π i)) * I .down-price c
+abbrev pub link-cost : Instance → (ℕ → ℕ) → ℕ → ℕ
+link-cost I π c = toll I c (leaving I (I .load) (λ i. under (I .parent) c (π i))) (entering I (I .load) (λ i. under (I .parent) c (π i)))
 
 module _ (I : Instance) (W : WellFormed I) (π : ℕ → ℕ) (placed : InRange I π) where
   cut-at : (c j : ℕ) → 0 < c → j < I .q
@@ -82,6 +79,12 @@ module _ (I : Instance) (W : WellFormed I) (π : ℕ → ℕ) (placed : InRange 
   unfolding link-keeps
   link-keeps-by-cut c z = ap₂ (link-fits I c) (carried-up c z) (carried-down c z)
 
+  -- and by their demand
+  pub link-keeps-by-flows : (c : ℕ) → 0 < c → link-keeps I π c
+      ≡ leb (leaving I (I .load) (λ i. under (I .parent) c (π i))) (I .up-capacity c)
+      && leb (entering I (I .load) (λ i. under (I .parent) c (π i))) (I .down-capacity c)
+  link-keeps-by-flows c z = link-keeps-by-cut c z ∙ link-fits-by-flows I c (λ i. under (I .parent) c (π i))
+
   -- ---- cost
 
   -- the demand of all streams on the edge e
@@ -90,11 +93,11 @@ module _ (I : Instance) (W : WellFormed I) (π : ℕ → ℕ) (placed : InRange 
 
   running-up : (c : ℕ) → 0 < c → running (up c) ≡ leaving I (I .load) (λ i. under (I .parent) c (π i))
   unfolding running leaving
-  running-up c z = sum-ext (I .q) _ _ (λ j k. ap (λ (n : ℕ). n * I .load j) (cut-at c j z k .0) ∙ only-mul _ (I .load j))
+  running-up c z = sum-ext (I .q) _ _ (λ j k. ap (λ (n : ℕ). n * I .load j) (cut-at c j z k .0) ∙ only-once _ (I .load j))
 
   running-down : (c : ℕ) → 0 < c → running (down c) ≡ entering I (I .load) (λ i. under (I .parent) c (π i))
   unfolding running entering
-  running-down c z = sum-ext (I .q) _ _ (λ j k. ap (λ (n : ℕ). n * I .load j) (cut-at c j z k .1) ∙ only-mul _ (I .load j))
+  running-down c z = sum-ext (I .q) _ _ (λ j k. ap (λ (n : ℕ). n * I .load j) (cut-at c j z k .1) ∙ only-once _ (I .load j))
 
   by-edges : links-cost I π ≡ sum-below (tree I .edges) (λ e. running e * edge-price I e)
   unfolding links-cost running
@@ -105,19 +108,20 @@ module _ (I : Instance) (W : WellFormed I) (π : ℕ → ℕ) (placed : InRange 
       sum-ext (I .q) _ _ (λ j h. sym (mul-assoc (times e (routes I π j)) (I .load j) (edge-price I e)))
       ∙ sym (sum-mul (I .q) (λ j. times e (routes I π j) * I .load j) (edge-price I e)))
 
-  toll-at : (c : ℕ) (t : Bool) → ltb 0 c ≡ t → only t (running (up c) * edge-price I (up c) + running (down c) * edge-price I (down c)) ≡ only t (toll I π c)
+  cost-at : (c : ℕ) (t : Bool) → ltb 0 c ≡ t → only t (running (up c) * edge-price I (up c) + running (down c) * edge-price I (down c)) ≡ only t (link-cost I π c)
   unfolding only
-  toll-at c false h = refl
-  toll-at c true h =
+  cost-at c false h = refl
+  cost-at c true h =
       let z : 0 < c = ltb-true 0 c h in
       ap₂ (λ (x y : ℕ). x + y)
       (ap₂ (λ (x y : ℕ). x * y) (running-up c z) (price-up I c z))
       (ap₂ (λ (x y : ℕ). x * y) (running-down c z) (price-down I c z))
+      ∙ sym (toll-by-price I c _ _)
 
   -- the links' part of a plan's cost, link by link
-  pub links-cost-by-links : links-cost I π ≡ sum-below (I .s) (λ c. only (ltb 0 c) (toll I π c))
+  pub links-cost-by-links : links-cost I π ≡ sum-below (I .s) (λ c. only (ltb 0 c) (link-cost I π c))
   links-cost-by-links =
       by-edges ∙ by-cabinets (I .s - 1) (λ e. running e * edge-price I e)
       ∙ ap (λ (n : ℕ). sum-below n (λ c. only (ltb 0 c) (running (up c) * edge-price I (up c) + running (down c) * edge-price I (down c))))
       (let q : suc (I .s - 1) ≡ I .s = omega (arith, W .some-cabinet) in q)
-      ∙ sum-ext (I .s) _ _ (λ c k. toll-at c (ltb 0 c) refl)
+      ∙ sum-ext (I .s) _ _ (λ c k. cost-at c (ltb 0 c) refl)

@@ -16,14 +16,19 @@ use Rattle.sheet.specs.Instance.{Instance, WellFormed}
 use Rattle.embedding.specs.Definition1.{member, SimplePath, node-load, edge-load, Feasible, cost}
 use Rattle.embedding.specs.Limits.{Limits}
 use Rattle.embedding.specs.Road.{up, down, lower, by-way, edge-price, tree, road}
-use Rattle.embedding.specs.Plan.{routes, fits, link-fits, fee, weight, carried, link-keeps, in-range, cabinets-keep, links-keep, valid, cabinets-cost, links-cost, plan-cost}
+use Rattle.embedding.specs.Plan.{routes, demand-of, carried, link-keeps, in-range, cabinets-keep, links-keep, valid, links-cost, plan-cost}
 use Rattle.embedding.proofs.Edges.{which, lower-pos, edge-lower, up-edge, down-edge, at-up, at-down}
 use Rattle.embedding.proofs.Paths.{path-simple, path-only}
 use Rattle.embedding.proofs.Feasible.{sums-suffice}
+use Rattle.embedding.proofs.Reckoning.{demand-sum, cabinets-by-demand, cabinets-cost-sum, link-fits-by-capacity, weight-load}
 
 -- every service has a cabinet of the road
 abbrev pub InRange : Instance → (ℕ → ℕ) → Type 0
 InRange I π = (i : ℕ) → i < I .r → π i < I .s
+
+-- What validity tests beyond Definition 1; the limits must give it. There is nothing yet.
+unfoldable pub Beyond : Instance → (ℕ → ℕ) → Type 0
+Beyond I π = Unit {0}
 
 module _ (I : Instance) where
   -- ---- the tests of a plan, as facts
@@ -36,32 +41,32 @@ module _ (I : Instance) where
     λ p. all-in (I .r) (λ i. ltb (π i) (I .s)) (λ i k. lt-ltb (π i) (I .s) (p i k)),
   )
 
-  -- the test of the cabinets is the sum of demands on each of them
-  pub cabinets-test : (π : ℕ → ℕ) → (cabinets-keep I π ≡ true)
-      ↔ ((c : ℕ) → c < I .s → sum-below (I .r) (λ i. only (eqb (π i) c) (I .demand i)) ≤ I .capacity c)
-  unfolding cabinets-keep fits
+  -- the test of the cabinets is the demand on each of them
+  pub cabinets-test : (π : ℕ → ℕ) → (cabinets-keep I π ≡ true) ↔ ((c : ℕ) → c < I .s → demand-of I (λ i. eqb (π i) c) ≤ I .capacity c)
   cabinets-test π = (
-    λ h c k. leb-true _ _ (all-at (I .s) (λ c. fits I c (λ i. eqb (π i) c)) h c k),
-    λ p. all-in (I .s) (λ c. fits I c (λ i. eqb (π i) c)) (λ c k. le-leb _ _ (p c k)),
+    λ h c k. leb-true _ _ (all-at (I .s) _ (sym (cabinets-by-demand I π) ∙ h) c k),
+    λ p. cabinets-by-demand I π ∙ all-in (I .s) _ (λ c k. le-leb _ _ (p c k)),
   )
 
   -- the test of the links is the load of each of their directions
   pub links-test : (π : ℕ → ℕ) → (links-keep I π ≡ true)
       ↔ ((c : ℕ) → 0 < c → c < I .s → (carried I π (up c) ≤ I .up-capacity c) × (carried I π (down c) ≤ I .down-capacity c))
-  unfolding links-keep link-keeps link-fits
+  unfolding links-keep link-keeps
   links-test π = (
     λ h c z k.
-        let t : link-keeps I π c ≡ true = implied (ltb 0 c) (link-keeps I π c) (all-at (I .s) (λ c. ltb 0 c ⇒ link-keeps I π c) h c k) (lt-ltb 0 c z) in
+        let t = sym (link-fits-by-capacity I c (carried I π (up c)) (carried I π (down c)))
+        ∙ implied (ltb 0 c) (link-keeps I π c) (all-at (I .s) (λ c. ltb 0 c ⇒ link-keeps I π c) h c k) (lt-ltb 0 c z) in
         (leb-true _ _ (both-l (leb (carried I π (up c)) (I .up-capacity c)) _ t), leb-true _ _ (both-r (leb (carried I π (up c)) (I .up-capacity c)) _ t)),
     λ p. all-in (I .s) (λ c. ltb 0 c ⇒ link-keeps I π c) (λ c k. implies (ltb 0 c) (link-keeps I π c) (λ z.
-        both _ _ (le-leb _ _ (p c (ltb-true 0 c z) k .0)) (le-leb _ _ (p c (ltb-true 0 c z) k .1)))),
+        link-fits-by-capacity I c (carried I π (up c)) (carried I π (down c))
+        ∙ both _ _ (le-leb _ _ (p c (ltb-true 0 c z) k .0)) (le-leb _ _ (p c (ltb-true 0 c z) k .1)))),
   )
 
-  -- a plan is valid when all three tests pass
-  pub valid-test : (π : ℕ → ℕ) → (valid I π ≡ true) ↔ ((in-range I π ≡ true) × (cabinets-keep I π ≡ true) × (links-keep I π ≡ true))
-  unfolding valid
+  -- a plan is valid when it passes the three tests, and what is tested beyond Definition 1
+  pub valid-test : (π : ℕ → ℕ) → (valid I π ≡ true) ↔ ((in-range I π ≡ true) × (cabinets-keep I π ≡ true) × (links-keep I π ≡ true) × Beyond I π)
+  unfolding valid Beyond
   valid-test π = (
-    λ h. (both-l (in-range I π) _ h, both-l (cabinets-keep I π) (links-keep I π) (both-r (in-range I π) _ h), both-r (cabinets-keep I π) (links-keep I π) (both-r (in-range I π) _ h)),
+    λ h. (both-l (in-range I π) _ h, both-l (cabinets-keep I π) (links-keep I π) (both-r (in-range I π) _ h), both-r (cabinets-keep I π) (links-keep I π) (both-r (in-range I π) _ h), tt),
     λ p. both (in-range I π) _ (p .0) (both (cabinets-keep I π) (links-keep I π) (p .1) (p .2)),
   )
 
@@ -73,26 +78,21 @@ module _ (I : Instance) where
 
   -- the cost of Definition 1 along the computed paths is the cost of the plan
   pub cost-plan : (π : ℕ → ℕ) (ρ : ℕ → List ℕ) → ((j : ℕ) → j < I .q → ρ j ≡ routes I π j) → cost (road I) π ρ ≡ plan-cost I π
-  unfolding cost plan-cost cabinets-cost links-cost fee
+  unfolding cost plan-cost links-cost
   cost-plan π ρ e =
       ap₂ (λ (x y : ℕ). x + y)
-      (sum-ext (I .r) _ _ (λ i k. sum-1 (λ t. I .demand i * I .price (π i))))
+      (sum-ext (I .r) _ _ (λ i k. sum-1 (λ t. I .demand i * I .price (π i))) ∙ sym (cabinets-cost-sum I π))
       (sum-ext (I .q) _ _ (λ j k.
       sum-over-ext (λ e. sum-below 1 (λ t. I .load j * edge-price I e)) (λ e. I .load j * edge-price I e) (λ e. sum-1 (λ t. I .load j * edge-price I e)) (ρ j)
       ∙ ap (sum-over (λ e. I .load j * edge-price I e)) (e j k)))
 
-  node-load-plan : (π : ℕ → ℕ) (ρ : ℕ → List ℕ) (c t : ℕ) → node-load (road I) π ρ c t ≡ sum-below (I .r) (λ i. only (eqb (π i) c) (I .demand i))
+  node-load-plan : (π : ℕ → ℕ) (ρ : ℕ → List ℕ) (c t : ℕ) → node-load (road I) π ρ c t ≡ demand-of I (λ i. eqb (π i) c)
   unfolding node-load
-  node-load-plan π ρ c t = refl
+  node-load-plan π ρ c t = sym (demand-sum I (λ i. eqb (π i) c))
 
   edge-load-plan : (π : ℕ → ℕ) (ρ : ℕ → List ℕ) → ((j : ℕ) → j < I .q → ρ j ≡ routes I π j) → (e t : ℕ) → edge-load (road I) π ρ e t ≡ carried I π e
-  unfolding edge-load carried weight
-  edge-load-plan π ρ r e t = sum-ext (I .q) _ _ (λ j k. ap (λ (l : List ℕ). only (member e l) (I .load j)) (r j k))
-
-  -- every mapping keeps the limits
-  pub limits-hold : (π : ℕ → ℕ) (ρ : ℕ → List ℕ) → Limits I π ρ
-  unfolding Limits
-  limits-hold π ρ = tt
+  unfolding edge-load carried
+  edge-load-plan π ρ r e t = sum-ext (I .q) _ _ (λ j k. ap₂ (λ (l : List ℕ) (w : ℕ). only (member e l) w) (r j k) (sym (weight-load I j)))
 
 module _ (I : Instance) (W : WellFormed I) where
   -- a mapping leaves no choice of paths
@@ -107,8 +107,22 @@ module _ (I : Instance) (W : WellFormed I) where
   unfolding routes
   route-simple π p j k = path-simple I W (π (I .from j)) (π (I .to j)) (p (I .from j) (W .from-service j k)) (p (I .to j) (W .to-service j k))
 
-  feasible-valid : (π : ℕ → ℕ) (ρ : ℕ → List ℕ) → Feasible (road I) π ρ → valid I π ≡ true
-  feasible-valid π ρ F =
+  -- ---- the limits: these two laws alone open them
+
+  -- a valid plan keeps the limits along the computed paths
+  pub valid-limits : (π : ℕ → ℕ) → valid I π ≡ true → Limits I π (routes I π)
+  unfolding Limits Beyond
+  valid-limits π v = valid-test I π .0 v .3
+
+  -- a feasible mapping that keeps the limits passes what validity tests beyond Definition 1
+  pub limits-beyond : (π : ℕ → ℕ) (ρ : ℕ → List ℕ) → Feasible (road I) π ρ → Limits I π ρ → Beyond I π
+  unfolding Limits Beyond
+  limits-beyond π ρ F L = L
+
+  -- ---- validity and feasibility
+
+  feasible-valid : (π : ℕ → ℕ) (ρ : ℕ → List ℕ) → Feasible (road I) π ρ → Limits I π ρ → valid I π ≡ true
+  feasible-valid π ρ F L =
       valid-test I π .1 (
         range-test I π .1 (F .valid .placed),
         cabinets-test I π .1 (λ c k. omega (arith, F .nodes-keep c k 0 (omega arith), node-load-plan I π ρ c 0)),
@@ -116,6 +130,7 @@ module _ (I : Instance) (W : WellFormed I) where
           omega (arith, F .edges-keep (up c) (up-edge I c z k) 0 (omega arith), edge-load-plan I π ρ (route-only π ρ F) (up c) 0, at-up I (I .up-capacity) (I .down-capacity) c z),
           omega (arith, F .edges-keep (down c) (down-edge I c z k) 0 (omega arith), edge-load-plan I π ρ (route-only π ρ F) (down c) 0, at-down I (I .up-capacity) (I .down-capacity) c z),
         )),
+        limits-beyond π ρ F L,
       )
 
   valid-feasible : (π : ℕ → ℕ) → valid I π ≡ true → Feasible (road I) π (routes I π)
@@ -150,6 +165,6 @@ module _ (I : Instance) (W : WellFormed I) where
       ((valid I π ≡ true) × (plan-cost I π ≡ k))
       ↔ ((ρ : ℕ → List ℕ) × Feasible (road I) π ρ × Limits I π ρ × (cost (road I) π ρ ≡ k))
   plan-iff-mapping π k = (
-    λ v. (routes I π, valid-feasible π (v .0), limits-hold I π (routes I π), cost-plan I π (routes I π) (λ j k. refl) ∙ v .1),
-    λ m. (feasible-valid π (m .0) (m .1), sym (cost-plan I π (m .0) (route-only π (m .0) (m .1))) ∙ m .3),
+    λ v. (routes I π, valid-feasible π (v .0), valid-limits π (v .0), cost-plan I π (routes I π) (λ j k. refl) ∙ v .1),
+    λ m. (feasible-valid π (m .0) (m .1) (m .2), sym (cost-plan I π (m .0) (route-only π (m .0) (m .1))) ∙ m .3),
   )

@@ -11,17 +11,27 @@ use Rattle.subsets.specs.Costs.{provided}
 use Rattle.sheet.specs.Instance.{Instance, WellFormed}
 use Rattle.embedding.specs.Definition1.{member}
 use Rattle.embedding.specs.Road.{up, down, edge-price}
-use Rattle.embedding.specs.Plan.{path, routes, fits, link-fits, fee, weight, carried, link-keeps, in-range, cabinets-keep, links-keep, valid, cabinets-cost, links-cost, plan-cost, worth}
+use Rattle.embedding.specs.Plan.{path, routes, demand-of, fits, admits, link-fits, fee, toll, weight, carried, link-keeps, in-range, cabinets-keep, links-keep, valid, cabinets-cost, links-cost, plan-cost, worth}
 use Rattle.embedding.specs.Inner.Charge.{leaving, entering}
-use Rattle.embedding.proofs.Loads.{toll}
+use Rattle.embedding.proofs.Loads.{link-cost}
 
 module _ (I : Instance) (W : WellFormed I) where
   -- ---- sets of services
   module _ (x y : ℕ → Bool) (same : (i : ℕ) → i < I .r → x i ≡ y i) where
-    -- what a cabinet admits
+    -- what a set demands
+    demand-ext : demand-of I x ≡ demand-of I y
+    unfolding demand-of
+    demand-ext = sum-ext (I .r) _ _ (λ i k. ap (λ (t : Bool). only t (I .demand i)) (same i k))
+
+    -- what a cabinet has room for
     pub fits-ext : (c : ℕ) → fits I c x ≡ fits I c y
     unfolding fits
-    fits-ext c = ap (λ (n : ℕ). leb n (I .capacity c)) (sum-ext (I .r) _ _ (λ i k. ap (λ (t : Bool). only t (I .demand i)) (same i k)))
+    fits-ext c = ap (λ (n : ℕ). leb n (I .capacity c)) demand-ext
+
+    -- what a cabinet admits
+    pub admits-ext : (c : ℕ) → admits I c x ≡ admits I c y
+    unfolding admits
+    admits-ext = fits-ext
 
     -- what leaves a set
     pub leaving-ext : (f : ℕ → ℕ) → leaving I f x ≡ leaving I f y
@@ -49,9 +59,9 @@ module _ (I : Instance) (W : WellFormed I) where
     link-keeps-ext c = ap₂ (link-fits I c) (carried-ext (up c)) (carried-ext (down c))
 
     -- what a link costs
-    pub toll-ext : (c : ℕ) → toll I π c ≡ toll I σ c
-    toll-ext c =
-        ap₂ (λ (m n : ℕ). m * I .up-price c + n * I .down-price c)
+    pub link-cost-ext : (c : ℕ) → link-cost I π c ≡ link-cost I σ c
+    link-cost-ext c =
+        ap₂ (toll I c)
         (leaving-ext (λ i. under (I .parent) c (π i)) (λ i. under (I .parent) c (σ i)) (λ i k. ap (under (I .parent) c) (same i k)) (I .load))
         (entering-ext (λ i. under (I .parent) c (π i)) (λ i. under (I .parent) c (σ i)) (λ i k. ap (under (I .parent) c) (same i k)) (I .load))
 

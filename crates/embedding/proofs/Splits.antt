@@ -22,7 +22,7 @@ use Rattle.embedding.specs.Splits.{stands, keeps, placeable, weighed}
 use Rattle.embedding.specs.Inner.Charge.{net}
 use Rattle.embedding.proofs.Digits.{number}
 use Rattle.subsets.proofs.Provided.{provided-some}
-use Rattle.embedding.proofs.Services.{fits-ext, link-keeps-ext}
+use Rattle.embedding.proofs.Services.{admits-ext, link-keeps-ext}
 use Rattle.embedding.proofs.Charges.{Part, inner, part-cost, stands-placed, part-charges}
 
 -- d is p, or under a child of p numbered below k
@@ -93,7 +93,7 @@ module _ (I : Instance) (W : WellFormed I) where
     keeps-ext =
         ap₂ _&&_ (all-ext (I .r) _ _ (agree (λ t m. t ⇒ T m && ltb m (I .s)) (λ m n. refl)))
         (ap₂ _&&_
-        (all-ext (I .s) _ _ (λ c k. ap (λ (t : Bool). T c ⇒ t) (fits-ext I W (λ i. has a i && eqb (π i) c) (λ i. has a i && eqb (σ i) c) (agree (λ t m. t && eqb m c) (λ m n. refl)) c)))
+        (all-ext (I .s) _ _ (λ c k. ap (λ (t : Bool). T c ⇒ t) (admits-ext I W (λ i. has a i && eqb (π i) c) (λ i. has a i && eqb (σ i) c) (agree (λ t m. t && eqb m c) (λ m n. refl)) c)))
         (all-ext (I .s) _ _ (λ c k. ap (λ (t : Bool). inner I T c ⇒ t) (link-keeps-ext I W (stands I a v π) (stands I a v σ) stands-ext c))))
 
   stands-in : (a v : ℕ) (π : ℕ → ℕ) (i : ℕ) → has a i ≡ true → stands I a v π i ≡ π i

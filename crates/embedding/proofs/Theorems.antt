@@ -15,7 +15,7 @@ use Rattle.sheet.specs.Instance.{Instance, WellFormed}
 use Rattle.embedding.specs.Definition1.{Input, AtMost, member, SimplePath, node-load, edge-load, Feasible, cost}
 use Rattle.embedding.specs.Limits.{Limits}
 use Rattle.embedding.specs.Road.{up, down, tree, road}
-use Rattle.embedding.specs.Plan.{path, routes, weight, carried, in-range, valid, links-cost, plan-cost, cheapest}
+use Rattle.embedding.specs.Plan.{path, routes, toll, weight, carried, in-range, valid, links-cost, plan-cost, cheapest}
 use Rattle.embedding.specs.Splits.{keeps, placeable, weighed}
 use Rattle.embedding.specs.Inner.Charge.{leaving, entering, net}
 use Rattle.embedding.proofs.Feasible as feasible
@@ -81,6 +81,7 @@ module _ (I : Instance) (W : WellFormed I) where
   pub cost-by-links : (π : ℕ → ℕ) → in-range I π ≡ true →
       links-cost I π ≡ sum-below (I .s) (λ c. only (ltb 0 c)
       (leaving I (I .load) (λ i. under (I .parent) c (π i)) * I .up-price c + entering I (I .load) (λ i. under (I .parent) c (π i)) * I .down-price c))
+  unfolding toll
   cost-by-links π h = loads.links-cost-by-links I W π (range-test I π .0 h)
 
   -- No plan's cost reaches 10^15.

@@ -3,11 +3,16 @@ use Prim.Native.Nat.{ℕ, zero, suc, _+_, _*_, _/_, _%_, _^_}
 use mathlib.Core.Bool.{Bool, true, false, _&&_}
 use mathlib.Core.List.{List, [], _∷_, _++_}
 use lib.Dec.{eqb, ltb, leb}
+use lib.ListN.{getD}
 use Rattle.finite.specs.Below.{_⇒_, only, sum-below, all-below, sum-over}
 use Rattle.subsets.specs.Costs.{Cost, provided, least-below}
 use Rattle.sheet.specs.Instance.{Instance}
 use Rattle.embedding.specs.Definition1.{member}
 use Rattle.embedding.specs.Road.{up, down, edge-price}
+
+-- the cabinet that a plan, written as a list, gives service i
+abbrev pub place : List ℕ → ℕ → ℕ
+place plan i = getD plan i 0
 
 -- The path from a to b: while the ends differ, the end with the larger number moves to its parent. This takes at most a + b moves.
 unfoldable pub path-within : (ℕ → ℕ) → ℕ → ℕ → ℕ → List ℕ
@@ -32,17 +37,29 @@ module _ (I : Instance) where
   unfoldable pub routes : (ℕ → ℕ) → ℕ → List ℕ
   routes π j = path (π (I .from j)) (π (I .to j))
 
-  -- cabinet c admits the services for which x holds: their demands sum to at most its capacity
-  unfoldable pub fits : ℕ → (ℕ → Bool) → Bool
-  fits c x = leb (sum-below (I .r) (λ i. only (x i) (I .demand i))) (I .capacity c)
+  -- the demand of the services for which x holds: the sum of their demands
+  unfoldable pub demand-of : (ℕ → Bool) → ℕ
+  demand-of x = sum-below (I .r) (λ i. only (x i) (I .demand i))
 
-  -- the link above c admits m upwards and n downwards: each is at most the capacity of its direction
+  -- cabinet c has room for the services for which x holds: their demand is at most its capacity
+  unfoldable pub fits : ℕ → (ℕ → Bool) → Bool
+  fits c x = leb (demand-of x) (I .capacity c)
+
+  -- cabinet c admits the services for which x holds: it has room for them
+  unfoldable pub admits : ℕ → (ℕ → Bool) → Bool
+  admits c x = fits c x
+
+  -- the link above c lets through m upwards and n downwards: each is at most the capacity of its direction
   unfoldable pub link-fits : ℕ → ℕ → ℕ → Bool
   link-fits c m n = leb m (I .up-capacity c) && leb n (I .down-capacity c)
 
   -- what cabinet c charges for service i
   unfoldable pub fee : ℕ → ℕ → ℕ
   fee c i = I .demand i * I .price c
+
+  -- what the link above c charges for a demand of m upwards and n downwards: each at the price of its direction
+  unfoldable pub toll : ℕ → ℕ → ℕ → ℕ
+  toll c m n = m * I .up-price c + n * I .down-price c
 
   -- what stream j takes of a link's capacity in the direction in which it runs
   unfoldable pub weight : ℕ → ℕ

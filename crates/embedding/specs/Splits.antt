@@ -6,7 +6,7 @@ use Rattle.finite.specs.Below.{_⇒_, only, sum-below, all-below, any-below}
 use Rattle.subsets.specs.Sets.{has, subset}
 use Rattle.subsets.specs.Tree.{before}
 use Rattle.sheet.specs.Instance.{Instance}
-use Rattle.embedding.specs.Plan.{fits, link-keeps, digit}
+use Rattle.embedding.specs.Plan.{admits, link-keeps, digit}
 
 module _ (I : Instance) where
   -- where the streams of service i end while only the services of a are placed: at its cabinet if it is in a, else at p
@@ -17,7 +17,7 @@ module _ (I : Instance) where
   unfoldable pub keeps : (ℕ → Bool) → ℕ → ℕ → (ℕ → ℕ) → Bool
   keeps T p a π =
       all-below (I .r) (λ i. has a i ⇒ T (π i) && ltb (π i) (I .s))
-      && (all-below (I .s) (λ c. T c ⇒ fits I c (λ i. has a i && eqb (π i) c))
+      && (all-below (I .s) (λ c. T c ⇒ admits I c (λ i. has a i && eqb (π i) c))
       && all-below (I .s) (λ c. T c && (ltb 0 c && T (I .parent c)) ⇒ link-keeps I (stands a p π) c))
 
   -- some placing of a on the part before c keeps its capacities

@@ -6,6 +6,7 @@ use mathlib.Core.Path.{_≡_, refl, _∙_}
 use mathlib.Core.Bool.{Bool, true, false, _&&_}
 use lib.Dec.{leb}
 use borrow.Author.Tests.{le-leb, lt-leb, leb-true}
+use Rattle.sheet.specs.Limits.{max-services, max-cabinets}
 use Rattle.subsets.specs.declared.Power.{Power}
 use Rattle.subsets.specs.declared.Power.the-variants.{Value, Outside}
 use Rattle.subsets.specs.Powers.{power-of-three}
@@ -15,7 +16,7 @@ use Rattle.planner.specs.declared.SplitBound.the-variants.{AtMost, Refus
 use Rattle.planner.specs.Bounds.{split-bound}
 
 module _ (r s : ℕ) where
-  refused : leb r 10 && (leb 1 s && leb s 200) ≡ false → Refused (SheetWriter 2) ≡ split-bound r s
+  refused : leb r max-services && (leb 1 s && leb s max-cabinets) ≡ false → Refused (SheetWriter 2) ≡ split-bound r s
   unfolding split-bound refusal
   refused e = simp e
 
@@ -23,11 +24,14 @@ module _ (r s : ℕ) where
   second b e true = e
   second b e false = refl
 
-  pub no-cabinets : s < 1 → Refused (SheetWriter 2) ≡ split-bound r s
-  no-cabinets h = refused (second (leb 1 s && leb s 200) (rw (lt-leb 1 s h)) (leb r 10))
+  pub many-services : max-services < r → Refused (SheetWriter 2) ≡ split-bound r s
+  many-services h = refused (rw (lt-leb r max-services h))
 
-  pub many-cabinets : 200 < s → Refused (SheetWriter 2) ≡ split-bound r s
-  many-cabinets h = refused (second (leb 1 s && leb s 200) (second (leb s 200) (lt-leb s 200 h) (leb 1 s)) (leb r 10))
+  pub no-cabinets : s < 1 → Refused (SheetWriter 2) ≡ split-bound r s
+  no-cabinets h = refused (second (leb 1 s && leb s max-cabinets) (rw (lt-leb 1 s h)) (leb r max-services))
+
+  pub many-cabinets : max-cabinets < s → Refused (SheetWriter 2) ≡ split-bound r s
+  many-cabinets h = refused (second (leb 1 s && leb s max-cabinets) (second (leb s max-cabinets) (lt-leb s max-cabinets h) (leb 1 s)) (leb r max-services))
 
   -- the power that the table has
   pub power-value : (p : Power) (n : ℕ) → p ≡ power-of-three r → p ≡ Value n → (r ≤ 10) × (n ≡ 3 ^ r)
@@ -38,19 +42,19 @@ module _ (r s : ℕ) where
       go true q = let z : p ≡ Value (3 ^ r) = e ∙ rw q in (leb-true r 10 q, (cc))
       go false q = absurd (let z : p ≡ Outside = e ∙ rw q in let y : _≡_ {A = ℕ} 0 1 = cc in omega arith)
 
-  pub many-services : (p : Power) → p ≡ power-of-three r → p ≡ Outside → Refused (SheetWriter 2) ≡ split-bound r s
+  pub no-power : (p : Power) → p ≡ power-of-three r → p ≡ Outside → Refused (SheetWriter 2) ≡ split-bound r s
   unfolding power-of-three
-  many-services p e f = go (leb r 10) refl
+  no-power p e f = go (leb r 10) refl
     where
       go : (t : Bool) → leb r 10 ≡ t → Refused (SheetWriter 2) ≡ split-bound r s
       go true q = absurd (let z : p ≡ Value (3 ^ r) = e ∙ rw q in let y : _≡_ {A = ℕ} 0 1 = cc in omega arith)
       go false q = refused (rw q)
 
-  pub bound-fits : r ≤ 10 → s ≤ 200 → (s - 1) * 3 ^ r ≤ 200 * 59049
+  pub bound-fits : r ≤ max-services → s ≤ max-cabinets → (s - 1) * 3 ^ r ≤ 200 * 59049
   bound-fits h k =
       let power : 3 ^ r ≤ 59049 = pow-le-pow-right {n = 3} (omega arith) h in
       mul-le-mul (let z : s - 1 ≤ 200 = omega arith in z) power
 
-  pub within : r ≤ 10 → 1 ≤ s → s ≤ 200 → AtMost ((s - 1) * 3 ^ r) ≡ split-bound r s
+  pub within : r ≤ max-services → 1 ≤ s → s ≤ max-cabinets → AtMost ((s - 1) * 3 ^ r) ≡ split-bound r s
   unfolding split-bound
-  within h k l = simp (le-leb r 10 h, le-leb 1 s k, le-leb s 200 l)
+  within h k l = simp (le-leb r max-services h, le-leb 1 s k, le-leb s max-cabinets l)

@@ -1,6 +1,7 @@
 -- The lender's refusals, and what the whole of the memory lent holds once its first part was used.
-use Prim.Native.Nat.{ℕ, _+_, _≤_, _<_}
+use Prim.Native.Nat.{ℕ, _+_, _^_, _≤_, _<_}
 use native.Mathlib.Omega.{arith}
+use native.Mathlib.Nat.{pow-le-pow-right}
 use mathlib.Core.Path.{_≡_, refl, sym, ap, _∙_}
 use mathlib.Core.Bool.{true, _||_}
 use mathlib.Core.List.{List, _++_}
@@ -10,6 +11,7 @@ use lib.Seq.{take-at}
 use borrow.Author.Tests.{lt-ltb, le-ltb, ne-eqb}
 use Rattle.finite.proofs.Booleans.{either-r, neither}
 use Rattle.subsets.specs.Costs.{Cost, none, some}
+use Rattle.sheet.specs.Limits.{max-services}
 use Rattle.sheet.specs.Instance.{Instance, WellFormed}
 use Rattle.sheet.specs.Refusals.{first-applying, refusal, number-of}
 use Rattle.sheet.specs.Reading.{reading}
@@ -18,14 +20,18 @@ use Rattle.sheet.specs.declared.Reading.the-variants as readers
 use Rattle.sheet.proofs.Groups.{reading-number}
 use Rattle.sheet.specs.declared.Refusal.the-variants.{Lender}
 use Rattle.embedding.specs.Plan as plans
-use Rattle.embedding.specs.Plan.{valid, plan-cost, cheapest}
+use Rattle.embedding.specs.Plan.{place, valid, plan-cost, cheapest}
 use Rattle.embedding.specs.Splits.{weighed}
 use Rattle.subsets.proofs.Provided.{provided-some}
 use Rattle.embedding.proofs.Services.{worth-ext}
 use Rattle.planner.specs.declared.Planned.{Planned}
 use Rattle.planner.specs.declared.Planned.the-variants.{Plan, Refused}
 use Rattle.planner.specs.Answers.{entries, lender-rules, solved, lent}
-use Rattle.planner.specs.Lent.{used, table-after, plan-in, OutputAfter}
+use Rattle.planner.specs.Lent.{used, table-after, OutputAfter}
+
+-- a row has at most as many entries as there can be sets
+pub sets-le : (I : Instance) → WellFormed I → 2 ^ I .r ≤ 2 ^ max-services
+sets-le I W = pow-le-pow-right {n = 2} (omega arith) (W .services)
 
 module _ (I : Instance) (output costs choices : ℕ) where
   pub short-output : output < I .r → Refused (Lender 10) 0 ≡ lent (first-applying (lender-rules I output costs choices)) I
@@ -61,9 +67,9 @@ table-lifted I a f n table part e p =
 pub output-lifted : (I : Instance) → WellFormed I → (a : Planned) (output part : List ℕ) → length part ≡ I .r → OutputAfter I a (take (I .r) output) part → OutputAfter I a output (part ++ drop (I .r) output)
 unfolding plans.worth
 output-lifted I W (Plan k n) output part e (s, v, c, w) =
-    let π : ℕ → ℕ = plan-in (part ++ drop (I .r) output) in
+    let π : ℕ → ℕ = place (part ++ drop (I .r) output) in
     let good = provided-some (valid I π) (plan-cost I π) k .0
-    (worth-ext I W π (plan-in part) (λ i l. List·getD-append part (drop (I .r) output) 0 i (omega arith)) ∙ provided-some (valid I (plan-in part)) (plan-cost I (plan-in part)) k .1 (v, c)) in (
+    (worth-ext I W π (place part) (λ i l. List·getD-append part (drop (I .r) output) 0 i (omega arith)) ∙ provided-some (valid I (place part)) (plan-cost I (place part)) k .1 (v, c)) in (
       length-append part (drop (I .r) output) ∙ ap (λ (m : ℕ). m + length (drop (I .r) output)) s ∙ sym (length-append (take (I .r) output) (drop (I .r) output)) ∙ ap length (take-append-drop (I .r) output),
       good .0,
       good .1,

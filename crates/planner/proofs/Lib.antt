@@ -1,16 +1,6 @@
--- What the proofs of the code share.
-mod Joining
-mod Written
-mod Summing
-mod Children
-mod Parted
-mod Charging
-mod Joinable
-mod Rebuilding
-mod Filling
-mod Walking
-mod Columns
+-- What the proofs of the code share, and laws of the planner's answers.
 mod Solving
+pub mod Kept
 pub mod Lending
 pub mod Order
 mod Bounding

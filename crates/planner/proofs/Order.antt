@@ -10,15 +10,13 @@ use borrow.Author.Tests.{le-ltb, ltb-false}
 use Rattle.finite.proofs.Booleans.{neither, neither-l, neither-r}
 use Rattle.subsets.specs.Costs.{Cost, none, some, is-some}
 use Rattle.sheet.specs.Instance.{Instance, instance}
-use Rattle.sheet.specs.Refusals.{first-applying, number-of, giving, in-order}
+use Rattle.sheet.specs.Refusals.{first-applying, giving, in-order}
 use Rattle.sheet.specs.Reading as reader
-use Rattle.sheet.specs.Reading.{reading}
 use Rattle.sheet.specs.declared.Reading.{Reading}
 use Rattle.sheet.proofs.Groups.{number-refusal}
 use Rattle.sheet.proofs.Order.{first-none, first-some, after-reader}
 use Rattle.embedding.specs.Plan.{cheapest}
 use Rattle.embedding.specs.Splits.{weighed}
-use Rattle.planner.specs.declared.Planned.{Planned}
 use Rattle.planner.specs.Answers.{number, entries, lender-rules, Enough, road-rules, all-rules, solved, lent, answered, planned}
 
 -- ---- enough memory

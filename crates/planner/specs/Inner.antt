@@ -1,5 +1,3 @@
--- What the planner's helpers hold on the way: only private functions and proofs cite it.
-pub mod Loaded
-pub mod Sums
-pub mod Joins
+-- What only private functions and proofs cite.
 pub mod Tables
+pub mod Decided

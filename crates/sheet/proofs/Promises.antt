@@ -293,6 +293,11 @@ module _ (bytes : List ℕ) (h : Sheet) (a : reading bytes ≡ Accepted h) where
         );
       }
 
+  -- and of the root's parent
+  pub root-parent : instance bytes .parent 0 ≡ 65535
+  unfolding instance some-parent-wrong wrong-parent
+  root-parent = at-root (λ d. cab d .parent) ∙ eqb-true (cab 0 .parent) 65535 (not-false _ (none-at (header bytes .cabinets) _ (clean .parents) 0 (sizes .some-cabinet)))
+
   -- every record that the sheet has is given, with the fields of the instance
   pub service-given :
       (i : ℕ) →

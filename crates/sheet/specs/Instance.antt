@@ -6,6 +6,9 @@ use lib.Dec.{ltb}
 use Rattle.finite.specs.Below.{only}
 use Rattle.sheet.specs.Limits.{max-services, max-cabinets, max-streams, max-amount}
 use Rattle.sheet.specs.Layout.{header, service, cabinet, stream}
+use Rattle.sheet.specs.declared.Service.{Service}
+use Rattle.sheet.specs.declared.Cabinet.{Cabinet}
+use Rattle.sheet.specs.declared.Stream.{Stream}
 
 -- r services, s cabinets and q streams, and each field of a record by the record's number
 pub record Instance : Type 0 where
@@ -27,25 +30,31 @@ pub record Instance : Type 0 where
   pub to : ℕ → ℕ
   pub load : ℕ → ℕ
 
--- the instance of a sheet; a field of a record that isn't there is 0
+-- the instance of so many services, cabinets and streams, and of each record by its number; a field of a record that isn't there is 0
+abbrev pub of-records : ℕ → ℕ → ℕ → (ℕ → Service) → (ℕ → Cabinet) → (ℕ → Stream) → Instance
+of-records r s q service cabinet stream =
+    record {
+      r = r;
+      s = s;
+      q = q;
+      demand = λ i. only (ltb i r) (service i .demand);
+      parent = λ c. only (ltb c s) (cabinet c .parent);
+      capacity = λ c. only (ltb c s) (cabinet c .capacity);
+      price = λ c. only (ltb c s) (cabinet c .price);
+      up-capacity = λ c. only (ltb c s) (cabinet c .«up_capacity»);
+      up-price = λ c. only (ltb c s) (cabinet c .«up_price»);
+      down-capacity = λ c. only (ltb c s) (cabinet c .«down_capacity»);
+      down-price = λ c. only (ltb c s) (cabinet c .«down_price»);
+      from = λ j. only (ltb j q) (stream j .from);
+      to = λ j. only (ltb j q) (stream j .to);
+      load = λ j. only (ltb j q) (stream j .demand);
+    }
+
+-- the instance of a sheet
 unfoldable pub instance : List ℕ → Instance
 instance bytes =
-    record {
-      r = header bytes .services;
-      s = header bytes .cabinets;
-      q = header bytes .streams;
-      demand = λ i. only (ltb i (header bytes .services)) (service (header bytes) bytes i .demand);
-      parent = λ c. only (ltb c (header bytes .cabinets)) (cabinet (header bytes) bytes c .parent);
-      capacity = λ c. only (ltb c (header bytes .cabinets)) (cabinet (header bytes) bytes c .capacity);
-      price = λ c. only (ltb c (header bytes .cabinets)) (cabinet (header bytes) bytes c .price);
-      up-capacity = λ c. only (ltb c (header bytes .cabinets)) (cabinet (header bytes) bytes c .«up_capacity»);
-      up-price = λ c. only (ltb c (header bytes .cabinets)) (cabinet (header bytes) bytes c .«up_price»);
-      down-capacity = λ c. only (ltb c (header bytes .cabinets)) (cabinet (header bytes) bytes c .«down_capacity»);
-      down-price = λ c. only (ltb c (header bytes .cabinets)) (cabinet (header bytes) bytes c .«down_price»);
-      from = λ j. only (ltb j (header bytes .streams)) (stream (header bytes) bytes j .from);
-      to = λ j. only (ltb j (header bytes .streams)) (stream (header bytes) bytes j .to);
-      load = λ j. only (ltb j (header bytes .streams)) (stream (header bytes) bytes j .demand);
-    }
+    of-records (header bytes .services) (header bytes .cabinets) (header bytes .streams)
+    (service (header bytes) bytes) (cabinet (header bytes) bytes) (stream (header bytes) bytes)
 
 -- every number of a family is at most 10,000
 abbrev pub Amounts : (ℕ → ℕ) → Type 0

@@ -4,6 +4,7 @@ use native.Mathlib.Omega.{arith}
 use mathlib.Core.Path.{_≡_, refl, sym, ap, ap₂, _∙_, subst, fun-ext}
 use mathlib.Core.Bool.{Bool, true, false}
 use lib.Dec.{eqb}
+use lib.Bits.{bitAnd, and-le-r}
 use borrow.Author.Tests.{eq-eqb}
 use Rattle.subsets.specs.Sets.{has}
 use Rattle.subsets.specs.Costs.{Cost, some}
@@ -192,6 +193,43 @@ module _ (N : Net) (choice : ℕ → ℕ → ℕ) where
       -- From the root it is a placing on the whole tree.
       pub seat-root : (x n : ℕ) → 0 < N .s → x < 2 ^ N .r → row-at N 0 (N .s) x ≡ some n → Meets N (λ d. true) 0 x (row-at N 0 (N .s) x) (seat N choice 0 (N .s) x)
       seat-root x n h hx e = Meets-ext N _ (λ d. true) 0 x _ _ (λ d j. part-root (N .parent) falls (N .s) d j) (seat-meets 0 (N .s) x n h (omega arith) hx e)
+
+-- ---- a walk depends on the entries of nodes and sets that are there
+
+module _ (N : Net) (choice choice₁ : ℕ → ℕ → ℕ) (same : (c x : ℕ) → c < N .s → x < 2 ^ N .r → choice c x ≡ choice₁ c x) where
+  same-stays : (c x : ℕ) → c < N .s → x < 2 ^ N .r → stays choice c x ≡ stays choice₁ c x
+  same-stays c x l h = ap (λ (a : ℕ). bitAnd a x) (same c x l h)
+
+  walk-table : (down down₁ : ℕ → ℕ → ℕ → ℕ) (p k x i : ℕ) → k ≤ N .s → x < 2 ^ N .r → ((c y : ℕ) → c < N .s → y < 2 ^ N .r → down c y i ≡ down₁ c y i)
+      → walk N choice down p k x i ≡ walk N choice₁ down₁ p k x i
+  unfolding walk
+  walk-table down down₁ p zero x i l h d = refl
+  walk-table down down₁ p (suc k) x i l h d = go (child N p k) (has (stays choice k x) i) refl refl (λ y m. walk-table down down₁ p k y i (omega arith) m d)
+    where
+      s : stays choice k x ≡ stays choice₁ k x
+      s = same-stays k x (omega arith) h
+
+      low : stays choice k x < 2 ^ N .r
+      low = omega (arith, and-le-r (choice k x) x)
+
+      go : (a b : Bool) → child N p k ≡ a → has (stays choice k x) i ≡ b → ((y : ℕ) → y < 2 ^ N .r → walk N choice down p k y i ≡ walk N choice₁ down₁ p k y i)
+          → walk N choice down p (suc k) x i ≡ walk N choice₁ down₁ p (suc k) x i
+      go true true e q ih =
+          walk-stay N choice down p k x i e q ∙ ih (stays choice k x) low ∙ ap (λ (z : ℕ). walk N choice₁ down₁ p k z i) s
+          ∙ sym (walk-stay N choice₁ down₁ p k x i e (ap (λ (z : ℕ). has z i) (sym s) ∙ q))
+      go true false e q ih =
+          walk-leave N choice down p k x i e q ∙ d k (x - stays choice k x) (omega arith) (omega arith) ∙ ap (λ (z : ℕ). down₁ k (x - z) i) s
+          ∙ sym (walk-leave N choice₁ down₁ p k x i e (ap (λ (z : ℕ). has z i) (sym s) ∙ q))
+      go false b e q ih = walk-pass N choice down p k x i e ∙ ih x h ∙ sym (walk-pass N choice₁ down₁ p k x i e)
+
+  descent-table : (n p x i : ℕ) → x < 2 ^ N .r → descent N choice n p x i ≡ descent N choice₁ n p x i
+  unfolding descent
+  descent-table zero p x i h = refl
+  descent-table (suc n) p x i h = walk-table (descent N choice n) (descent N choice₁ n) p (N .s) x i (omega arith) h (λ c y l m. descent-table n c y i m)
+
+  pub seat-table : (p k x i : ℕ) → k ≤ N .s → x < 2 ^ N .r → seat N choice p k x i ≡ seat N choice₁ p k x i
+  unfolding seat
+  seat-table p k x i l h = walk-table (descent N choice (N .s)) (descent N choice₁ (N .s)) p k x i l h (λ c y m j. descent-table (N .s) c y i j)
 
 -- The table that the planner fills holds winning splits.
 pub choice-wins : (N : Net) → Falls (N .parent) → Wins N (choice-at N)

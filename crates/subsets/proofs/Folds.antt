@@ -1,14 +1,12 @@
 -- The fold over subsets that the planner's join makes: its cost is the least over splits, its choice is a split that has it, and its count
 -- is the number of subsets whose figure is a cost.
-use mathlib.Core.Path.{_≡_, refl, sym, ap, _∙_, subst}
-use mathlib.Core.Bool.{Bool, true, false, _&&_, cond}
-use mathlib.Core.List.{List}
+use mathlib.Core.Path.{_≡_, refl, sym, ap, ap₂, _∙_, subst}
+use mathlib.Core.Bool.{Bool, true, false, _&&_, _||_, cond}
 use Prim.Native.Nat.{ℕ, zero, suc, _+_, _-_, _^_, _≤_, _<_, min}
 use native.Mathlib.Omega.{arith}
 use native.Mathlib.Decide.{le-ind, decLt}
 use lib.Dec.{eqb, ltb}
 use lib.Bits.{bitAnd, and-zero-l}
-use lib.ListN.{getD}
 use borrow.Author.Tests.{eqb-true, eqb-false, eq-eqb, ne-eqb, ltb-true, ltb-false}
 use Rattle.finite.specs.Below.{only, sum-below}
 use Rattle.finite.proofs.Sums.{sum-ext, sum-more, sum-le, only-le}
@@ -19,7 +17,7 @@ use Rattle.subsets.specs.Figures.{limit, is-cost, read, capped, lesser-f
 use Rattle.subsets.specs.Inner.Encoded.{nothing, figure}
 use Rattle.subsets.specs.Inner.Splits.{split-charge, least-split, winner}
 use Rattle.subsets.specs.Inner.Count.{pairs}
-use Rattle.subsets.specs.Inner.Folds.{tried, scan, start, best-split, counted-below}
+use Rattle.subsets.specs.Inner.Folds.{earlier, is-tie, tried, scan, start, best-split, counted-below}
 use Rattle.subsets.specs.declared.Best.{Best}
 use Rattle.subsets.proofs.Costs.{Le-trans, lesser-l, lesser-r}
 use Rattle.subsets.proofs.Figures.{read-cost, read-none, read-some, read-is, read-sum, read-weighing, figure-read}
@@ -27,45 +25,125 @@ use Rattle.subsets.proofs.Sets.{Sub, sub-le, subset-within}
 use Rattle.subsets.proofs.Subsets.{subset-least, winner-is, winner-none}
 use Rattle.subsets.proofs.Loop.{next-below, next-largest}
 
+-- ---- how ties are settled changes neither the cost nor the count
+
+same-scan : (lower lower₁ : ℕ → ℕ → Bool) (row child link : ℕ → ℕ) (x n : ℕ) (b d : Best) → b .cost ≡ d .cost → b .counted ≡ d .counted
+    → (scan lower row child link x n b .cost ≡ scan lower₁ row child link x n d .cost) × (scan lower row child link x n b .counted ≡ scan lower₁ row child link x n d .counted)
+unfolding scan
+same-scan lower lower₁ row child link x zero b d e f = (e, f)
+same-scan lower lower₁ row child link x (suc a) b d e f =
+    same-scan lower lower₁ row child link x a _ _ (go (within a x) .0) (go (within a x) .1)
+  where
+    p : ℕ
+    p = row a
+
+    q : ℕ
+    q = child (x - a)
+
+    l : ℕ
+    l = link (x - a)
+
+    go : (t : Bool) → (cond t (tried lower b a p q l) b .cost ≡ cond t (tried lower₁ d a p q l) d .cost) × (cond t (tried lower b a p q l) b .counted ≡ cond t (tried lower₁ d a p q l) d .counted)
+    go true = (ap (λ (z : ℕ). weighing z p q l .best) e, ap₂ (λ (y z : ℕ). y + weighing z p q l .counted) f e)
+    go false = (e, f)
+
+pub any-cost : (lower lower₁ : ℕ → ℕ → Bool) (row child link : ℕ → ℕ) (x : ℕ) → best-split lower row child link x .cost ≡ best-split lower₁ row child link x .cost
+unfolding best-split
+any-cost lower lower₁ row child link x = same-scan lower lower₁ row child link x (suc x) start start refl refl .0
+
+pub any-count : (lower lower₁ : ℕ → ℕ → Bool) (row child link : ℕ → ℕ) (x : ℕ) → best-split lower row child link x .counted ≡ best-split lower₁ row child link x .counted
+unfolding best-split
+any-count lower lower₁ row child link x = same-scan lower lower₁ row child link x (suc x) start start refl refl .1
+
 -- ---- the steps of a scan, as the loop `a = (a - 1) & x` makes them
 
-module _ (row child link : List ℕ) (x : ℕ) where
+module _ (lower : ℕ → ℕ → Bool) (row child link : ℕ → ℕ) (x : ℕ) where
   -- the split that places a, tried
   abbrev pub try-at : Best → ℕ → Best
-  try-at b a = tried b a (getD row a 0) (getD child (x - a) 0) (getD link (x - a) 0)
+  try-at b a = tried lower b a (row a) (child (x - a)) (link (x - a))
 
   -- a subset is tried
-  pub scan-at : (b : Best) (a : ℕ) → Sub a x → scan row child link x (suc a) b ≡ scan row child link x a (try-at b a)
+  pub scan-at : (b : Best) (a : ℕ) → Sub a x → scan lower row child link x (suc a) b ≡ scan lower row child link x a (try-at b a)
   unfolding scan
   scan-at b a s = simp (eq-eqb (bitAnd a x) a s)
 
   -- any other number is passed over
-  pub scan-pass : (b : Best) (a : ℕ) → (Sub a x → ⊥) → scan row child link x (suc a) b ≡ scan row child link x a b
+  pub scan-pass : (b : Best) (a : ℕ) → (Sub a x → ⊥) → scan lower row child link x (suc a) b ≡ scan lower row child link x a b
   unfolding scan
   scan-pass b a n = simp (ne-eqb (bitAnd a x) a n)
 
   -- so the next to be tried is (a - 1) & x
-  pub scan-next : (b : Best) (a : ℕ) → Sub a x → 0 < a → scan row child link x a b ≡ scan row child link x (suc (bitAnd (a - 1) x)) b
+  pub scan-next : (b : Best) (a : ℕ) → Sub a x → 0 < a → scan lower row child link x a b ≡ scan lower row child link x (suc (bitAnd (a - 1) x)) b
   scan-next b a s z =
-      le-ind (λ (m : ℕ). m ≤ a → scan row child link x m b ≡ scan row child link x (suc (bitAnd (a - 1) x)) b)
+      le-ind (λ (m : ℕ). m ≤ a → scan lower row child link x m b ≡ scan lower row child link x (suc (bitAnd (a - 1) x)) b)
       (λ h. refl)
       (λ m l ih h. scan-pass b m (λ t. omega (arith, next-largest a x m s t (omega arith))) ∙ ih (omega arith)) a (omega (arith, next-below a x z)) (omega arith)
 
   -- and the empty set is the last
-  pub scan-end : (b : Best) (a : ℕ) → a ≡ 0 → scan row child link x (suc a) b ≡ try-at b a
+  pub scan-end : (b : Best) (a : ℕ) → a ≡ 0 → scan lower row child link x (suc a) b ≡ try-at b a
   unfolding scan
-  scan-end b a z = subst (λ (a : ℕ). scan row child link x (suc a) b ≡ try-at b a) (sym z) (scan-at b 0 (and-zero-l x))
+  scan-end b a z = subst (λ (a : ℕ). scan lower row child link x (suc a) b ≡ try-at b a) (sym z) (scan-at b 0 (and-zero-l x))
 
--- a scan below n reads the row's places below n only
-pub scan-row : (row row₁ child link : List ℕ) (x n : ℕ) (b : Best) → ((k : ℕ) → k < n → getD row k 0 ≡ getD row₁ k 0) → scan row child link x n b ≡ scan row₁ child link x n b
+  -- the choice stays a subset of x
+  pub tried-sub : (b : Best) (a : ℕ) → Sub a x → Sub (b .chosen) x → Sub (try-at b a .chosen) x
+  tried-sub b a s t = go ((lower a (b .chosen) && is-tie (b .cost) (row a) (child (x - a)) (link (x - a))) || ltb (try-at b a .cost) (b .cost))
+    where
+      go : (u : Bool) → Sub (cond u a (b .chosen)) x
+      go true = s
+      go false = t
+
+  pub scan-sub : (n : ℕ) (b : Best) → Sub (b .chosen) x → Sub (scan lower row child link x n b .chosen) x
+  unfolding scan
+  scan-sub zero b s = s
+  scan-sub (suc a) b s = scan-sub a _ (go (within a x) refl)
+    where
+      go : (t : Bool) → within a x ≡ t → Sub (cond t (try-at b a) b .chosen) x
+      go true e = tried-sub b a (eqb-true (bitAnd a x) a e) s
+      go false e = s
+
+  -- the choice is a subset of x
+  pub best-sub : Sub (best-split lower row child link x .chosen) x
+  unfolding best-split
+  best-sub = scan-sub (suc x) start (and-zero-l x)
+
+-- a scan of x depends on all three figures only up to x, and on how ties between subsets of x are settled
+scan-ext : (lower lower₁ : ℕ → ℕ → Bool) (row row₁ child child₁ link link₁ : ℕ → ℕ) (x n : ℕ) (b : Best) → n ≤ suc x → Sub (b .chosen) x
+    → ((a d : ℕ) → Sub a x → Sub d x → lower a d ≡ lower₁ a d) → ((k : ℕ) → k ≤ x → row k ≡ row₁ k) → ((k : ℕ) → k ≤ x → child k ≡ child₁ k)
+    → ((k : ℕ) → k ≤ x → link k ≡ link₁ k) → scan lower row child link x n b ≡ scan lower₁ row₁ child₁ link₁ x n b
 unfolding scan
-scan-row row row₁ child link x zero b h = refl
-scan-row row row₁ child link x (suc a) b h = rw (h a (omega arith)) (scan-row row row₁ child link x a _ (λ k l. h k (omega arith)))
+scan-ext lower lower₁ row row₁ child child₁ link link₁ x zero b l s o f g h = refl
+scan-ext lower lower₁ row row₁ child child₁ link link₁ x (suc a) b l s o f g h =
+    go (within a x) refl (λ d t. scan-ext lower lower₁ row row₁ child child₁ link link₁ x a d (omega arith) t o f g h)
+  where
+    go : (t : Bool) → within a x ≡ t → ((d : Best) → Sub (d .chosen) x → scan lower row child link x a d ≡ scan lower₁ row₁ child₁ link₁ x a d)
+        → scan lower row child link x a (cond t (try-at lower row child link x b a) b) ≡ scan lower₁ row₁ child₁ link₁ x a (cond t (try-at lower₁ row₁ child₁ link₁ x b a) b)
+    go true e ih =
+        let u : Sub a x = eqb-true (bitAnd a x) a e in
+        ih (try-at lower row child link x b a) (tried-sub lower row child link x b a u s)
+        ∙ ap (scan lower₁ row₁ child₁ link₁ x a) (same u)
+      where
+        same : Sub a x → try-at lower row child link x b a ≡ try-at lower₁ row₁ child₁ link₁ x b a
+        same u = rw (f a (omega arith), g (x - a) (omega arith), h (x - a) (omega arith), o a (b .chosen) u s)
+    go false e ih = ih b s
 
--- the best split of x reads the row up to x only, so that a row can be updated in place from the last set down
-pub best-row : (row row₁ child link : List ℕ) (x : ℕ) → ((k : ℕ) → k ≤ x → getD row k 0 ≡ getD row₁ k 0) → best-split row child link x ≡ best-split row₁ child link x
+-- the best split of x depends on the figures up to x only
+pub best-ext : (lower lower₁ : ℕ → ℕ → Bool) (row row₁ child child₁ link link₁ : ℕ → ℕ) (x : ℕ) → ((a d : ℕ) → Sub a x → Sub d x → lower a d ≡ lower₁ a d)
+    → ((k : ℕ) → k ≤ x → row k ≡ row₁ k) → ((k : ℕ) → k ≤ x → child k ≡ child₁ k)
+    → ((k : ℕ) → k ≤ x → link k ≡ link₁ k) → best-split lower row child link x ≡ best-split lower₁ row₁ child₁ link₁ x
 unfolding best-split
-best-row row row₁ child link x h = scan-row row row₁ child link x (suc x) start (λ k l. h k (omega arith))
+best-ext lower lower₁ row row₁ child child₁ link link₁ x o f g h = scan-ext lower lower₁ row row₁ child child₁ link link₁ x (suc x) start (omega arith) (and-zero-l x) o f g h
+
+-- so a row can be updated in place from the last set down
+pub best-row : (lower : ℕ → ℕ → Bool) (row row₁ child link : ℕ → ℕ) (x : ℕ) → ((k : ℕ) → k ≤ x → row k ≡ row₁ k) → best-split lower row child link x ≡ best-split lower row₁ child link x
+best-row lower row row₁ child link x h = best-ext lower lower row row₁ child child link link x (λ a d s t. refl) h (λ k l. refl) (λ k l. refl)
+
+-- so do the counts of the sets below n on the figures below n
+pub counted-ext : (row row₁ child child₁ link link₁ : ℕ → ℕ) (n : ℕ) → ((k : ℕ) → k < n → row k ≡ row₁ k) → ((k : ℕ) → k < n → child k ≡ child₁ k)
+    → ((k : ℕ) → k < n → link k ≡ link₁ k) → counted-below row child link n ≡ counted-below row₁ child₁ link₁ n
+unfolding counted-below
+counted-ext row row₁ child child₁ link link₁ n f g h =
+    sum-ext n _ _ (λ x l. ap (λ (b : Best). b .counted)
+    (best-ext earlier earlier row row₁ child child₁ link link₁ x (λ a d s t. refl) (λ k m. f k (omega arith)) (λ k m. g k (omega arith)) (λ k m. h k (omega arith))))
 
 -- ---- one weighing
 
@@ -88,86 +166,71 @@ lesser-sum best p q l h = go (is-cost p && (is-cost q && is-cost l)) refl h
 
 -- ---- for any lists whatever
 
-module _ (row child link : List ℕ) (x : ℕ) where
+module _ (row child link : ℕ → ℕ) (x : ℕ) where
   -- the split that places a, as costs
   abbrev pub costs : ℕ → Cost
-  costs = split-charge (λ a. read (getD row a 0)) (λ a. read (getD child a 0)) (λ a. read (getD link a 0)) x
+  costs = split-charge (λ a. read (row a)) (λ a. read (child a)) (λ a. read (link a)) x
 
   -- 1 where a is a subset of x whose figure is a cost
   abbrev pub flag : ℕ → ℕ
-  flag a = only (within a x && is-some (read (getD row a 0))) 1
+  flag a = only (within a x && is-some (read (row a))) 1
 
-  -- the choice stays a subset of x
-  pub scan-sub : (n : ℕ) (b : Best) → Sub (b .chosen) x → Sub (scan row child link x n b .chosen) x
-  unfolding scan
-  scan-sub zero b s = s
-  scan-sub (suc a) b s = scan-sub a _ (go (within a x) (ltb (try-at row child link x b a .cost) (b .cost)) refl)
-    where
-      go : (t u : Bool) → within a x ≡ t → Sub (cond t (record { cost = try-at row child link x b a .cost; chosen = cond u a (b .chosen); counted = try-at row child link x b a .counted }) b .chosen) x
-      go true true e = eqb-true (bitAnd a x) a e
-      go true false e = s
-      go false u e = s
-
+module _ (lower : ℕ → ℕ → Bool) (row child link : ℕ → ℕ) (x : ℕ) where
   -- the cost stays a cost or the planner's own 'none'
-  pub scan-top : (n : ℕ) (b : Best) → b .cost ≤ nothing → scan row child link x n b .cost ≤ nothing
+  pub scan-top : (n : ℕ) (b : Best) → b .cost ≤ nothing → scan lower row child link x n b .cost ≤ nothing
   unfolding scan
   scan-top zero b h = h
   scan-top (suc a) b h = scan-top a _ (go (within a x))
     where
-      go : (t : Bool) → cond t (try-at row child link x b a) b .cost ≤ nothing
-      go true = unfold weighing in omega (arith, lesser-le (b .cost) (getD row a 0) (getD child (x - a) 0) (getD link (x - a) 0))
+      go : (t : Bool) → cond t (try-at lower row child link x b a) b .cost ≤ nothing
+      go true = unfold weighing in omega (arith, lesser-le (b .cost) (row a) (child (x - a)) (link (x - a)))
       go false = h
 
   -- the count grows by the flags
-  pub scan-count : (n : ℕ) (b : Best) → scan row child link x n b .counted ≡ b .counted + sum-below n flag
+  pub scan-count : (n : ℕ) (b : Best) → scan lower row child link x n b .counted ≡ b .counted + sum-below n (flag row child link x)
   unfolding scan sum-below
   scan-count zero b = omega arith
-  scan-count (suc a) b = omega (arith, scan-count a (cond (within a x) (try-at row child link x b a) b), go (within a x))
+  scan-count (suc a) b = omega (arith, scan-count a (cond (within a x) (try-at lower row child link x b a) b), go (within a x))
     where
-      go : (t : Bool) → cond t (try-at row child link x b a) b .counted ≡ b .counted + only (t && is-some (read (getD row a 0))) 1
-      go true = unfold weighing in rw (read-is (getD row a 0))
+      go : (t : Bool) → cond t (try-at lower row child link x b a) b .counted ≡ b .counted + only (t && is-some (read (row a))) 1
+      go true = unfold weighing in rw (read-is (row a))
       go false = unfold only in omega arith
 
   -- by one a subset at most
-  pub scan-count-le : (n : ℕ) (b : Best) → scan row child link x n b .counted ≤ b .counted + n
-  scan-count-le n b = omega (arith, scan-count n b, sum-le n 1 flag (λ a k. only-le (within a x && is-some (read (getD row a 0))) 1))
-
-  -- the choice is a subset of x
-  pub best-sub : Sub (best-split row child link x .chosen) x
-  unfolding best-split
-  best-sub = scan-sub (suc x) start (and-zero-l x)
+  pub scan-count-le : (n : ℕ) (b : Best) → scan lower row child link x n b .counted ≤ b .counted + n
+  scan-count-le n b = omega (arith, scan-count n b, sum-le n 1 (flag row child link x) (λ a k. only-le (within a x && is-some (read (row a))) 1))
 
   -- the cost is a cost, or the planner's own 'none'
-  pub best-top : best-split row child link x .cost ≤ nothing
+  pub best-top : best-split lower row child link x .cost ≤ nothing
   unfolding best-split
   best-top = scan-top (suc x) start (omega arith)
 
   -- The count is the number of subsets of x whose figure is a cost.
-  pub best-count : best-split row child link x .counted ≡ sum-below (suc x) flag
+  pub best-count : best-split lower row child link x .counted ≡ sum-below (suc x) (flag row child link x)
   unfolding best-split
-  best-count = scan-count (suc x) start ∙ (let q : 0 + sum-below (suc x) flag ≡ sum-below (suc x) flag = omega arith in q)
+  best-count = scan-count (suc x) start ∙ (let q : 0 + sum-below (suc x) (flag row child link x) ≡ sum-below (suc x) (flag row child link x) = omega arith in q)
 
 -- The counts of a join over all sets of r services sum to the pairs (X, A) where A's figure is a cost.
-pub counted-pairs : (row child link : List ℕ) (r : ℕ) → counted-below row child link (2 ^ r) ≡ pairs r (λ a. is-some (read (getD row a 0)))
+pub counted-pairs : (row child link : ℕ → ℕ) (r : ℕ) → counted-below row child link (2 ^ r) ≡ pairs r (λ a. is-some (read (row a)))
 unfolding counted-below pairs
 counted-pairs row child link r =
     sum-ext (2 ^ r) _ _ (λ x k.
-    best-count row child link x
+    best-count earlier row child link x
     ∙ sym (sum-more (suc x) (2 ^ r) (flag row child link x) k (λ a l m. outside x a l))
-    ∙ sum-ext (2 ^ r) _ _ (λ a l. ap (λ (t : Bool). only (t && is-some (read (getD row a 0))) 1) (sym (subset-within r a x l))))
+    ∙ sum-ext (2 ^ r) _ _ (λ a l. ap (λ (t : Bool). only (t && is-some (read (row a))) 1) (sym (subset-within r a x l))))
   where
     outside : (x a : ℕ) → suc x ≤ a → flag row child link x a ≡ 0
     outside x a h =
-        ap (λ (t : Bool). only (t && is-some (read (getD row a 0))) 1) (ne-eqb (bitAnd a x) a (λ s. omega (arith, sub-le a x s))) ∙ unfold only in refl
+        ap (λ (t : Bool). only (t && is-some (read (row a))) 1) (ne-eqb (bitAnd a x) a (λ s. omega (arith, sub-le a x s))) ∙ unfold only in refl
 
 -- ---- for lists whose sums are figures
 
 -- every sum of three costs, one for each split of x, is at most the limit
-abbrev pub Fits : List ℕ → List ℕ → List ℕ → ℕ → Type 0
+abbrev pub Fits : (ℕ → ℕ) → (ℕ → ℕ) → (ℕ → ℕ) → ℕ → Type 0
 Fits row child link x = (a n : ℕ) → Sub a x → costs row child link x a ≡ some n → n ≤ limit
 
 -- what holds once the subsets from n on are tried
-record Tried (row child link : List ℕ) (x n : ℕ) (b : Best) : Type 0 where
+record Tried (row child link : ℕ → ℕ) (x n : ℕ) (b : Best) : Type 0 where
   low : (a : ℕ) → Sub a x → n ≤ a → Le (read (b .cost)) (costs row child link x a)
   top : b .cost ≤ nothing
   won : b .cost ≤ limit → costs row child link x (b .chosen) ≡ some (b .cost)
@@ -176,7 +239,7 @@ record Tried (row child link : List ℕ) (x n : ℕ) (b : Best) : Type 0 where
   first : b .cost ≤ limit → (a : ℕ) → Sub a x → b .chosen < a → costs row child link x a ≡ some (b .cost) → ⊥
   empty : limit < b .cost → b .chosen ≡ 0
 
-module _ (row child link : List ℕ) (x : ℕ) (fits : Fits row child link x) where
+module _ (row child link : ℕ → ℕ) (x : ℕ) (fits : Fits row child link x) where
   abbrev F : ℕ → Cost
   F = costs row child link x
 
@@ -195,7 +258,7 @@ module _ (row child link : List ℕ) (x : ℕ) (fits : Fits row child link x) wh
     empty = λ h. refl;
   }
 
-  tried-at : (a : ℕ) (b : Best) → Sub a x → Tried row child link x (suc a) b → Tried row child link x a (try-at row child link x b a)
+  tried-at : (a : ℕ) (b : Best) → Sub a x → Tried row child link x (suc a) b → Tried row child link x a (try-at earlier row child link x b a)
   unfolding weighing
   tried-at a b s T = record {
     low = λ c t h. rw less (go c t h (eqb c a) refl);
@@ -207,13 +270,13 @@ module _ (row child link : List ℕ) (x : ℕ) (fits : Fits row child link x) wh
   }
     where
       p : ℕ
-      p = getD row a 0
+      p = row a
 
       q : ℕ
-      q = getD child (x - a) 0
+      q = child (x - a)
 
       l : ℕ
-      l = getD link (x - a) 0
+      l = link (x - a)
 
       new : ℕ
       new = lesser-figure (b .cost) p q l
@@ -265,38 +328,46 @@ module _ (row child link : List ℕ) (x : ℕ) (fits : Fits row child link x) wh
     empty = T .empty;
   }
 
-  tried-all : (n : ℕ) (b : Best) → Tried row child link x n b → Tried row child link x 0 (scan row child link x n b)
+  tried-all : (n : ℕ) (b : Best) → Tried row child link x n b → Tried row child link x 0 (scan earlier row child link x n b)
   unfolding scan
   tried-all zero b T = T
   tried-all (suc a) b T = tried-all a _ (go (within a x) refl)
     where
-      go : (t : Bool) → within a x ≡ t → Tried row child link x a (cond t (try-at row child link x b a) b)
+      go : (t : Bool) → within a x ≡ t → Tried row child link x a (cond t (try-at earlier row child link x b a) b)
       go true e = tried-at a b (eqb-true (bitAnd a x) a e) T
       go false e = tried-pass a b (eqb-false (bitAnd a x) a e) T
 
-  done : Tried row child link x 0 (best-split row child link x)
+  done : Tried row child link x 0 (best-split earlier row child link x)
   unfolding best-split
   done = tried-all (suc x) start tried-none
 
-  -- The cost, read as a figure, is the least over splits.
-  pub best-least : read (best-split row child link x .cost) ≡ least-split (λ a. read (getD row a 0)) (λ a. read (getD child a 0)) (λ a. read (getD link a 0)) x
-  best-least = subset-least F x (read (best-split row child link x .cost)) (λ a s. done .low a s (omega arith)) met
+  least : read (best-split earlier row child link x .cost) ≡ least-split (λ a. read (row a)) (λ a. read (child a)) (λ a. read (link a)) x
+  least = subset-least F x (read (best-split earlier row child link x .cost)) (λ a s. done .low a s (omega arith)) met
     where
-      met : (n : ℕ) → read (best-split row child link x .cost) ≡ some n → (a : ℕ) × Sub a x × (F a ≡ read (best-split row child link x .cost))
+      met : (n : ℕ) → read (best-split earlier row child link x .cost) ≡ some n → (a : ℕ) × Sub a x × (F a ≡ read (best-split earlier row child link x .cost))
       met n e =
-          let h = read-some (best-split row child link x .cost) n e in
-          (best-split row child link x .chosen, best-sub row child link x, done .won (h .1) ∙ sym (read-cost _ (h .1)))
+          let h = read-some (best-split earlier row child link x .cost) n e in
+          (best-split earlier row child link x .chosen, best-sub earlier row child link x, done .won (h .1) ∙ sym (read-cost _ (h .1)))
 
-  -- So the number itself is the figure of the least.
-  pub best-figure : best-split row child link x .cost ≡ figure (least-split (λ a. read (getD row a 0)) (λ a. read (getD child a 0)) (λ a. read (getD link a 0)) x)
-  best-figure = sym (ap figure (sym best-least) ∙ figure-read (best-split row child link x .cost) (best-top row child link x))
-
-  -- The choice is the winner.
-  pub best-winner : best-split row child link x .chosen ≡ winner F x
-  best-winner = go (decLt limit (best-split row child link x .cost))
+  won : best-split earlier row child link x .chosen ≡ winner F x
+  won = go (decLt limit (best-split earlier row child link x .cost))
     where
-      go : Dec (limit < best-split row child link x .cost) → best-split row child link x .chosen ≡ winner F x
-      go (yes h) = done .empty h ∙ sym (winner-none F x (sym best-least ∙ read-none _ h))
+      go : Dec (limit < best-split earlier row child link x .cost) → best-split earlier row child link x .chosen ≡ winner F x
+      go (yes h) = done .empty h ∙ sym (winner-none F x (sym least ∙ read-none _ h))
       go (no h) =
-          let k : best-split row child link x .cost ≤ limit = omega arith in
-          sym (winner-is F x _ _ (best-sub row child link x) (sym best-least ∙ read-cost _ k) (done .won k) (done .first k))
+          let k : best-split earlier row child link x .cost ≤ limit = omega arith in
+          sym (winner-is F x _ _ (best-sub earlier row child link x) (sym least ∙ read-cost _ k) (done .won k) (done .first k))
+
+  module _ (lower : ℕ → ℕ → Bool) where
+    -- The cost, read as a figure, is the least over splits.
+    pub best-least : read (best-split lower row child link x .cost) ≡ least-split (λ a. read (row a)) (λ a. read (child a)) (λ a. read (link a)) x
+    best-least = ap read (any-cost lower earlier row child link x) ∙ least
+
+    -- So the number itself is the figure of the least.
+    pub best-figure : best-split lower row child link x .cost ≡ figure (least-split (λ a. read (row a)) (λ a. read (child a)) (λ a. read (link a)) x)
+    best-figure = sym (ap figure (sym best-least) ∙ figure-read (best-split lower row child link x .cost) (best-top lower row child link x))
+
+    -- Where ties go to the earlier, the choice is the winner.
+    pub best-winner : ((a d : ℕ) → lower a d ≡ false) → best-split lower row child link x .chosen ≡ winner F x
+    best-winner ties =
+        ap (λ (b : Best). b .chosen) (best-ext lower earlier row row child child link link x (λ a d s t. ties a d) (λ k l. refl) (λ k l. refl) (λ k l. refl)) ∙ won

@@ -1,4 +1,4 @@
--- The laws behind the definitions of specs/. Join has the theorem, Rows the walk over the tree, Count the count, Back the placing read back, Tables one join of the planner.
+-- The laws behind the definitions of specs/. Join has the theorem, Rows the walk over the tree, Count the count, Back the placing read back, Tables one join of the planner, Rebuild a row with all its children.
 pub mod Back
 pub mod Bound
 pub mod Charges
@@ -16,3 +16,4 @@ pub mod Small
 pub mod Subsets
 pub mod Tables
 pub mod Tree
+pub mod Rebuild

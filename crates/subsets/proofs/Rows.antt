@@ -26,11 +26,11 @@ pub child-of : (N : Net) (c : ℕ) → 0 < c → child N (N .parent c) c ≡ tru
 child-of N c z = both (ltb 0 c) _ (lt-ltb 0 c z) (eq-eqb (N .parent c) (N .parent c) refl)
 
 module _ (N : Net) where
-  grown-child : (done : ℕ → ℕ → Cost) (p k x : ℕ) → child N p k ≡ true → grown N done p (suc k) x ≡ least-split (grown N done p k) (done k) (N .link k) x
+  pub grown-child : (done : ℕ → ℕ → Cost) (p k x : ℕ) → child N p k ≡ true → grown N done p (suc k) x ≡ least-split (grown N done p k) (done k) (N .link k) x
   unfolding grown
   grown-child done p k x e = rw (e, grown)
 
-  grown-other : (done : ℕ → ℕ → Cost) (p k x : ℕ) → child N p k ≡ false → grown N done p (suc k) x ≡ grown N done p k x
+  pub grown-other : (done : ℕ → ℕ → Cost) (p k x : ℕ) → child N p k ≡ false → grown N done p (suc k) x ≡ grown N done p k x
   unfolding grown
   grown-other done p k x e = rw (e, grown)
 

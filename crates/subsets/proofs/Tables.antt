@@ -4,9 +4,7 @@ use Prim.Native.Nat.{ℕ, suc, _-_, _*_, _^_, _≤_, _<_}
 use native.Mathlib.Omega.{arith}
 use native.Mathlib.Nat.{mul-le-mul-right}
 use mathlib.Core.Path.{_≡_, sym, ap, ap₂, _∙_}
-use mathlib.Core.Bool.{true}
-use mathlib.Core.List.{List}
-use lib.ListN.{getD}
+use mathlib.Core.Bool.{Bool, true, false}
 use Rattle.subsets.specs.Costs.{Cost, some, is-some}
 use Rattle.subsets.specs.Inner.Totals.{_⊕_}
 use Rattle.subsets.specs.Figures.{limit, read}
@@ -26,14 +24,14 @@ use Rattle.subsets.proofs.Bound.{row-bound, split-bound}
 use Rattle.subsets.proofs.Folds.{costs, Fits, best-figure, best-winner, counted-pairs}
 
 -- a list that holds the figures of costs reads as those costs
-pub holds-read : (n : ℕ) (f : ℕ → Cost) (l : List ℕ) → Holds n f l → ((a k : ℕ) → a < n → f a ≡ some k → k ≤ limit) → (a : ℕ) → a < n → read (getD l a 0) ≡ f a
+pub holds-read : (n : ℕ) (f : ℕ → Cost) (l : ℕ → ℕ) → Holds n f l → ((a k : ℕ) → a < n → f a ≡ some k → k ≤ limit) → (a : ℕ) → a < n → read (l a) ≡ f a
 holds-read n f l h small a k = ap read (h a k) ∙ read-figure (f a) (λ m e. small a m k e)
 
 module _ (N : Net) (falls : Falls (N .parent)) (B : ℕ)
     (nodes : (c x k : ℕ) → c < N .s → x < 2 ^ N .r → N .node c x ≡ some k → k ≤ B)
     (links : (c x k : ℕ) → c < N .s → x < 2 ^ N .r → N .link c x ≡ some k → k ≤ B)
     (small : (2 * N .s - 1) * B ≤ limit)
-    (p c : ℕ) (is-child : child N p c ≡ true) (hc : c < N .s) (row kid link : List ℕ)
+    (p c : ℕ) (is-child : child N p c ≡ true) (hc : c < N .s) (row kid link : ℕ → ℕ)
     (hr : Holds (2 ^ N .r) (row-at N p c) row) (hk : Holds (2 ^ N .r) (row-at N c (N .s)) kid) (hl : Holds (2 ^ N .r) (N .link c) link) where
   above : p < c
   above = let w = child-parent N p c is-child in omega (arith, falls c (w .0), w .1)
@@ -41,13 +39,13 @@ module _ (N : Net) (falls : Falls (N .parent)) (B : ℕ)
   once : B ≤ (2 * N .s - 1) * B
   once = omega (arith, mul-le-mul-right {m = 1} {n = 2 * N .s - 1} B (omega arith))
 
-  row-read : (a : ℕ) → a < 2 ^ N .r → read (getD row a 0) ≡ row-at N p c a
+  row-read : (a : ℕ) → a < 2 ^ N .r → read (row a) ≡ row-at N p c a
   row-read = holds-read (2 ^ N .r) (row-at N p c) row hr (λ a k h e. omega (arith, small, row-bound N B nodes links falls p c a k (omega (arith, above)) (omega arith) h e))
 
-  kid-read : (a : ℕ) → a < 2 ^ N .r → read (getD kid a 0) ≡ row-at N c (N .s) a
+  kid-read : (a : ℕ) → a < 2 ^ N .r → read (kid a) ≡ row-at N c (N .s) a
   kid-read = holds-read (2 ^ N .r) (row-at N c (N .s)) kid hk (λ a k h e. omega (arith, small, row-bound N B nodes links falls c (N .s) a k hc (omega arith) h e))
 
-  link-read : (a : ℕ) → a < 2 ^ N .r → read (getD link a 0) ≡ N .link c a
+  link-read : (a : ℕ) → a < 2 ^ N .r → read (link a) ≡ N .link c a
   link-read = holds-read (2 ^ N .r) (N .link c) link hl (λ a k h e. omega (arith, small, once, links c a k hc h e))
 
   module _ (x : ℕ) (hx : x < 2 ^ N .r) where
@@ -62,14 +60,14 @@ module _ (N : Net) (falls : Falls (N .parent)) (B : ℕ)
     least = subset-ext (costs row kid link x) (split-charge (row-at N p c) (row-at N c (N .s)) (N .link c) x) x same ∙ sym (row-join N falls p c x is-child hc)
 
     -- The best split's cost is the figure of the row after c is joined.
-    pub next-figure : best-split row kid link x .cost ≡ figure (row-at N p (suc c) x)
-    next-figure = best-figure row kid link x fits ∙ ap figure least
+    pub next-figure : (lower : ℕ → ℕ → Bool) → best-split lower row kid link x .cost ≡ figure (row-at N p (suc c) x)
+    next-figure lower = best-figure row kid link x fits lower ∙ ap figure least
 
-    -- The subset chosen is the entry of the choice table.
-    pub next-choice : best-split row kid link x .chosen ≡ choice-at N c x
+    -- The subset chosen, where ties go to the earlier, is the entry of the choice table.
+    pub next-choice : (lower : ℕ → ℕ → Bool) → ((a d : ℕ) → lower a d ≡ false) → best-split lower row kid link x .chosen ≡ choice-at N c x
     unfolding choice-at
-    next-choice =
-        best-winner row kid link x fits
+    next-choice lower ties =
+        best-winner row kid link x fits lower ties
         ∙ winner-ext (costs row kid link x) _ x (λ a s. same a s ∙ ap (λ (v : ℕ). split-charge (row-at N v c) (row-at N c (N .s)) (N .link c) x a) (sym (child-parent N p c is-child .1)))
 
   -- The counts of the join over all sets are the flags of c.

@@ -9,4 +9,5 @@ pub mod Join
 pub mod Rows
 pub mod Count
 pub mod Folds
+pub mod Rebuild
 pub mod Back

@@ -13,11 +13,11 @@ use Rattle.subsets.specs.Sets.{has, subset}
 use Rattle.subsets.specs.Tree.{climb, under, part}
 use Rattle.embedding.specs.Splits.{stands, keeps, placeable, weighed}
 use Rattle.planner.specs.Answers.{planned}
-use Rattle.embedding.specs.Plan.{path-within, path, routes, digit, valid, worth, cheapest, fits, link-fits, fee, weight, carried, link-keeps, in-range, cabinets-keep, links-keep, cabinets-cost, links-cost, plan-cost}
+use Rattle.embedding.specs.Plan.{path-within, path, routes, digit, valid, worth, cheapest, demand-of, fits, admits, link-fits, fee, weight, carried, link-keeps, in-range, cabinets-keep, links-keep, cabinets-cost, links-cost, plan-cost}
 use Rattle.checker.specs.Check as checks
 use Rattle.theorems.specs.Cases.{AllHold, cases}
 
 pub cases-hold : AllHold cases
-unfolding _⇒_ only sum-below all-below any-below sum-over header service-in cabinet-in stream-in service cabinet stream beyond-limits outside some-block-outside holds share some-blocks-share cabinet-too-high some-amount-too-high wrong-parent some-parent-wrong wrong-ends some-ends-wrong linked root-linked refusal first-applying reader.rules reader.answered reader.reading instance member up down lower by-way edge-price path-within path routes fits link-fits fee weight carried link-keeps in-range cabinets-keep links-keep cabinets-cost links-cost plan-cost checks.rules checks.answered checks.plan-checked checks.checked-after checks.checked lesser least-below provided has subset climb under part stands keeps placeable weighed planned digit valid worth cheapest
+unfolding _⇒_ only sum-below all-below any-below sum-over header service-in cabinet-in stream-in service cabinet stream beyond-limits outside some-block-outside holds share some-blocks-share cabinet-too-high some-amount-too-high wrong-parent some-parent-wrong wrong-ends some-ends-wrong linked root-linked refusal first-applying reader.rules reader.answered reader.reading instance member up down lower by-way edge-price path-within path routes demand-of fits admits link-fits fee weight carried link-keeps in-range cabinets-keep links-keep cabinets-cost links-cost plan-cost checks.rules checks.answered checks.plan-checked checks.checked-after checks.checked lesser least-below provided has subset climb under part stands keeps placeable weighed planned digit valid worth cheapest
 cases-hold =
-    (refl, (refl, (refl, (refl, (refl, (refl, (refl, (refl, (refl, (refl, (refl, (refl, (refl, (refl, tt))))))))))))))
+    (refl, (refl, (refl, (refl, (refl, (refl, (refl, (refl, (refl, (refl, (refl, (refl, (refl, (refl, (refl, tt)))))))))))))))

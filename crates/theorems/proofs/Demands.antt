@@ -9,7 +9,7 @@
 -- `Printed` in crates/report/specs/Text.antt, by the contract of `report::respond`.
 use Prim.Native.Nat.{ℕ, _-_, _*_, _^_, _≤_, _<_}
 use mathlib.Core.Logic.{_↔_, _⊎_, inl, inr}
-use mathlib.Core.Path.{_≡_, refl, sym, _∙_, subst}
+use mathlib.Core.Path.{_≡_, refl, _∙_}
 use mathlib.Core.Bool.{true}
 use mathlib.Core.List.{List}
 use lib.ListN.{length, take}
@@ -25,10 +25,11 @@ use Rattle.sheet.proofs.Order.{given-first, reading-first, reading-order}
 use Rattle.embedding.specs.Definition1.{Feasible}
 use Rattle.embedding.specs.Limits.{Limits}
 use Rattle.embedding.specs.Road.{road}
+use Rattle.embedding.specs.Plan.{place}
 use Rattle.embedding.specs.Splits.{weighed}
 use Rattle.embedding.proofs.Theorems.{plan-iff-mapping, cheapest-mapping}
 use Rattle.checker.specs.Check as check
-use Rattle.checker.specs.Check.{place, checked}
+use Rattle.checker.specs.Check.{checked}
 use Rattle.checker.specs.Answers as checks
 use Rattle.checker.specs.declared.Checked.{Checked}
 use Rattle.checker.specs.declared.Checked.the-variants as answers
@@ -40,7 +41,7 @@ use Rattle.planner.specs.declared.Planned.{Planned}
 use Rattle.planner.specs.declared.Planned.the-variants.{Plan, Refused}
 use Rattle.planner.proofs.Order.{plan-first, plan-order}
 use Rattle.theorems.proofs.Planning as planning
-use Rattle.theorems.specs.Promised.{Given, Maps, NoneCheaper, NoMapping, Best, Left}
+use Rattle.theorems.specs.Promised.{Given, Maps, NoneCheaper, Best, Left}
 
 -- ---- Demand 1
 

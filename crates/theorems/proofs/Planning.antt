@@ -1,5 +1,5 @@
 -- What the planner's definition gives: the work behind the demands.
-use Prim.Native.Nat.{ℕ, zero, suc, _+_, _-_, _*_, _^_, _≤_, _<_}
+use Prim.Native.Nat.{ℕ, zero, suc, _+_, _-_, _*_, _^_, _≤_}
 use native.Mathlib.Omega.{arith}
 use mathlib.Core.Logic.{_↔_, _⊎_, inl, inr}
 use mathlib.Core.Path.{_≡_, refl, sym, ap, _∙_, subst}
@@ -24,18 +24,17 @@ use Rattle.sheet.proofs.Promises.{well-formed}
 use Rattle.embedding.specs.Definition1.{Feasible}
 use Rattle.embedding.specs.Limits.{Limits}
 use Rattle.embedding.specs.Road.{road}
-use Rattle.embedding.specs.Plan.{valid, plan-cost, worth, cheapest}
+use Rattle.embedding.specs.Plan.{place, valid, plan-cost, worth, cheapest}
 use Rattle.embedding.specs.Splits.{placeable, weighed}
 use Rattle.embedding.proofs.Services.{worth-ext}
-use Rattle.embedding.proofs.Theorems.{plan-iff-mapping, cheapest-mapping, cheapest-none}
-use Rattle.checker.specs.Check.{place}
+use Rattle.embedding.proofs.Theorems.{cheapest-mapping, cheapest-none}
 use Rattle.planner.specs.Answers as plans
 use Rattle.planner.specs.Answers.{number, entries, lender-rules, Enough, solved, lent, planned}
 use Rattle.planner.specs.Lent.{used, table-after, OutputAfter}
 use Rattle.planner.specs.declared.Planned.{Planned}
 use Rattle.planner.specs.declared.Planned.the-variants.{Plan, Refused}
 use Rattle.planner.proofs.Order.{enough-iff}
-use Rattle.theorems.specs.Promised.{Given, Maps, NoneCheaper, NoMapping, Best, Cleared, Written, Left}
+use Rattle.theorems.specs.Promised.{Given, Best, Cleared, Written, Left}
 
 -- ---- the number of a refusal
 

@@ -99,6 +99,7 @@ cases =
     ∷ check road-m (0 ∷ 0 ∷ []) (Accepted 20)
     ∷ check road-m (1 ∷ 1 ∷ []) (Refused (refusal 15))
     ∷ check road-m (2 ∷ 0 ∷ []) (Refused (refusal 16))
+    ∷ check road-m (3 ∷ 0 ∷ []) (Refused (refusal 14))
     ∷ plan road-m (plans.Plan 15 18)
     ∷ plan (road 3 6) (plans.Plan 15 17)
     ∷ plan (road 0 6) (plans.Plan 15 12)

@@ -5,8 +5,7 @@ use lib.ListN.{length}
 use Rattle.sheet.specs.Instance.{instance}
 use Rattle.sheet.specs.declared.Sheet.{Sheet}
 use Rattle.sheet.proofs.Promises.{counts}
-use Rattle.embedding.specs.Plan.{in-range}
-use Rattle.checker.specs.Check.{place}
+use Rattle.embedding.specs.Plan.{place, in-range}
 use Rattle.checker.specs.Inner.Records.{Reads, Placed}
 use Rattle.checker.proofs.Deciding as deciding
 use borrow.Author.Needs.{needs}

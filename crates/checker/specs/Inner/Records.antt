@@ -12,8 +12,7 @@ use Rattle.sheet.specs.declared.Sheet.{Sheet}
 use Rattle.sheet.specs.declared.Cabinet.{Cabinet}
 use Rattle.sheet.specs.declared.Stream.{Stream}
 use Rattle.sheet.specs.declared.Reading.the-variants.{Accepted}
-use Rattle.embedding.specs.Plan.{in-range}
-use Rattle.checker.specs.Check.{place}
+use Rattle.embedding.specs.Plan.{place, in-range}
 
 -- the reader accepts the bytes and gives this sheet
 abbrev pub Reads : List ℕ → Sheet → Type 0

@@ -1,18 +1,21 @@
--- `bound` meets its contract, case by case.
+-- `bound` meets its contract.
 use Prim.Native.Nat.{ℕ, _-_, _*_}
 use native.Mathlib.Omega.{arith}
 use mathlib.Core.Path.{ap, _∙_}
 use borrow.Author.Needs.{needs}
 use Rattle.planner.specs.declared.SplitBound.the-variants.{AtMost}
-use Rattle.planner.proofs.Bounding.{no-cabinets, many-cabinets, many-services, power-value, bound-fits, within}
+use Rattle.planner.proofs.Bounding.{many-services, no-cabinets, many-cabinets, power-value, no-power, bound-fits, within}
 use Rattle.planner.proofs.bound.Statement.{statement}
 use Rattle.planner.proofs.bound.Tie as tie
 
 returns : tie.Need-returns
-returns c = no-cabinets _ _ (c .if1 .taken)
+returns c = many-services _ _ (c .if1 .taken)
 
 returns-2 : tie.Need-returns-2
-returns-2 c = many-cabinets _ _ (c .if2 .taken)
+returns-2 c = no-cabinets _ _ (c .if2 .taken)
+
+returns-3 : tie.Need-returns-3
+returns-3 c = many-cabinets _ _ (c .if3 .taken)
 
 power-of-three-requires : tie.Need-power-of-three-requires
 power-of-three-requires c κs = search needs
@@ -23,18 +26,18 @@ enum-known-power c = search needs
 enum-told : tie.Need-enum-told
 enum-told c = search needs
 
-returns-3 : tie.Need-returns-3
-returns-3 c = many-services _ _ _ (c .before .before .power-of-three .ensures) (c .enum-told .given .1)
-
-mul-t11 : tie.Need-mul-t11
-mul-t11 c =
-    let p = power-value (c .before .before .before .before .before .before .args .services) (c .before .before .before .before .before .before .args .cabinets) _ _ (c .before .before .before .power-of-three .ensures) (c .before .power .given .1) in
-    omega (arith, ap (λ (n : ℕ). (c .before .before .before .before .before .before .args .cabinets - 1) * n) (p .1), bound-fits (c .before .before .before .before .before .before .args .services) (c .before .before .before .before .before .before .args .cabinets) (p .0) (c .before .before .before .before .if2 .left))
-
 returns-4 : tie.Need-returns-4
-returns-4 c =
-    let p = power-value (c .before .before .before .before .before .before .args .services) (c .before .before .before .before .before .before .args .cabinets) _ _ (c .before .before .before .power-of-three .ensures) (c .before .power .given .1) in
-    ap (λ (n : ℕ). AtMost ((c .before .before .before .before .before .before .args .cabinets - 1) * n)) (p .1) ∙ within _ _ (p .0) (c .before .before .before .before .before .if1 .left) (c .before .before .before .before .if2 .left)
+returns-4 c = no-power _ _ _ (c .before .before .power-of-three .ensures) (c .enum-told .given .1)
+
+mul-t12 : tie.Need-mul-t12
+mul-t12 c =
+    let p = power-value (c .before .before .before .before .before .before .before .args .services) (c .before .before .before .before .before .before .before .args .cabinets) _ _ (c .before .before .before .power-of-three .ensures) (c .before .power .given .1) in
+    omega (arith, ap (λ (n : ℕ). (c .before .before .before .before .before .before .before .args .cabinets - 1) * n) (p .1), bound-fits (c .before .before .before .before .before .before .before .args .services) (c .before .before .before .before .before .before .before .args .cabinets) (p .0) (c .before .before .before .before .if3 .left))
+
+returns-5 : tie.Need-returns-5
+returns-5 c =
+    let p = power-value (c .before .before .before .before .before .before .before .args .services) (c .before .before .before .before .before .before .before .args .cabinets) _ _ (c .before .before .before .power-of-three .ensures) (c .before .power .given .1) in
+    ap (λ (n : ℕ). AtMost ((c .before .before .before .before .before .before .before .args .cabinets - 1) * n)) (p .1) ∙ within _ _ (p .0) (c .before .before .before .before .before .if2 .left) (c .before .before .before .before .if3 .left)
 
 pub bound-spec : {M : Type 1} → statement M
 bound-spec =
@@ -42,9 +45,10 @@ bound-spec =
     (tie.spec
     returns
     returns-2
+    returns-3
     power-of-three-requires
     enum-known-power
     enum-told
-    returns-3
-    mul-t11
-    returns-4)
+    returns-4
+    mul-t12
+    returns-5)

@@ -1,29 +1,33 @@
--- `plan` meets its contract: the reader's refusal is handed on, and an accepted sheet is planned.
-use Rattle.planner.proofs.Lending.{handed-on}
+-- `plan` meets its contract.
 use Prim.Native.Nat.{_-_}
-use mathlib.Core.Path.{refl, sym, ap, _∙_}
+use mathlib.Core.Path.{_≡_, refl, sym, ap, _∙_, subst}
 use borrow.Author.Needs.{needs}
 use lib.ListN.{length}
-use Rattle.sheet.specs.Instance.{instance}
+use Rattle.sheet.specs.Instance.{Instance, WellFormed, instance}
 use Rattle.sheet.specs.declared.Reading.{Reading}
-use Rattle.planner.specs.Answers.{answered, planned}
+use Rattle.sheet.proofs.Promises.{well-formed}
+use Rattle.planner.specs.Answers as answers
+use Rattle.planner.specs.Answers.{planned, lent, lender-rules}
+use Rattle.planner.specs.Lent.{table-after, OutputAfter}
+use Rattle.sheet.specs.Refusals.{first-applying}
+use Rattle.planner.proofs.Lending.{handed-on}
 use Rattle.planner.proofs.plan.Statement.{statement}
 use Rattle.planner.proofs.plan.Tie as tie
 
-read-requires : tie.Need-read-requires
-read-requires c κs = search needs
-
-enum-known-reading : tie.Need-enum-known-reading
-enum-known-reading c = search needs
-
-enum-known-reading-2 : tie.Need-enum-known-reading-2
-enum-known-reading-2 c = search needs
-
-enum-known-reading-3 : tie.Need-enum-known-reading-3
-enum-known-reading-3 c = search needs
+load-requires : tie.Need-load-requires
+load-requires c κs = search needs
 
 enum-told : tie.Need-enum-told
 enum-told c = search needs
+
+enum-known-answer : tie.Need-enum-known-answer
+enum-known-answer c = search needs
+
+enum-known-answer-2 : tie.Need-enum-known-answer-2
+enum-known-answer-2 c = search needs
+
+enum-told-2 : tie.Need-enum-told-2
+enum-told-2 c = search needs
 
 returns : tie.Need-returns
 returns c = search needs
@@ -33,13 +37,15 @@ unfolding planned
 returns-2 c =
     let a = c .before .before .before .before .before .before .before .before .before .before .before .args in
     let I = instance (a .sheet .now) in
-    let e = sym (c .before .before .before .before .before .before .read .ensures) ∙ c .before .before .before .before .reading2 .given .1 ∙ c .before .reading3 .given .1 in (
-      sym (ap (λ (o : Reading). answered o I (length (a .output .now)) (length (a .costs .now)) (length (a .choices .now))) e),
+    let e = sym (c .before .before .before .before .before .before .load .ensures .0) ∙ c .before .before .before .before .answer .given .1 ∙ c .before .answer2 .given .1 in (
+      sym (ap (λ (o : Reading). answers.answered o I (length (a .output .now)) (length (a .costs .now)) (length (a .choices .now))) e),
       (refl, (handed-on I (a .sheet .now) _ (a .costs .now) e, handed-on I (a .sheet .now) _ (a .choices .now) e)),
     )
 
-plan-accepted-requires : tie.Need-plan-accepted-requires
-plan-accepted-requires c κs = sym (c .before .before .before .before .before .before .read .ensures) ∙ c .before .before .before .before .reading .given .1
+plan-records-requires : tie.Need-plan-records-requires
+plan-records-requires c κs =
+    let e = sym (c .before .before .before .before .before .load .ensures .0) ∙ c .before .before .before .enum-told .given .1 in
+    subst WellFormed (sym (c .before .before .before .before .before .load .ensures .1 .accepted _ e)) (well-formed (c .before .before .before .before .before .before .before .before .before .before .args .sheet .now) _ e)
 
 same-length : tie.Need-same-length
 same-length c = search needs
@@ -53,23 +59,29 @@ same-length-3 c = search needs
 returns-3 : tie.Need-returns-3
 unfolding planned
 returns-3 c =
-    let a = c .before .before .before .before .before .before .before .before .before .before .before .before .before .before .before .before .before .before .args in
-    let e = sym (c .before .before .before .before .before .before .before .before .before .before .before .before .before .read .ensures) ∙ c .before .before .before .before .before .before .before .before .before .before .before .reading .given .1 in
-    let P = c .before .before .before .before .before .before .plan-accepted .ensures in
-    (P .0 ∙ sym (ap (λ (o : Reading). answered o (instance (a .sheet .now)) (length (a .output .now)) (length (a .costs .now)) (length (a .choices .now))) e), P .1)
+    let a = c .before .before .before .before .before .before .before .before .before .before .before .before .before .before .before .before .before .args in
+    let I = instance (a .sheet .now) in
+    let e = sym (c .before .before .before .before .before .before .before .before .before .before .before .before .load .ensures .0) ∙ c .before .before .before .before .before .before .before .before .before .before .enum-told .given .1 in
+    let p = c .before .before .before .before .before .before .plan-records in
+    let P = subst (λ (J : Instance).
+    (p .result ≡ lent (first-applying (lender-rules J (length (a .output .now)) (length (a .costs .now)) (length (a .choices .now)))) J)
+    × (OutputAfter J (p .result) (a .output .now) (p .last .1 .0)
+    × ((p .last .1 .1 .0 ≡ table-after J (p .result) (a .costs .now)) × (p .last .1 .1 .1 .0 ≡ table-after J (p .result) (a .choices .now)))))
+    (c .before .before .before .before .before .before .before .before .before .before .before .before .load .ensures .1 .accepted _ e) (p .ensures) in
+    (P .0 ∙ sym (ap (λ (o : Reading). answers.answered o I (length (a .output .now)) (length (a .costs .now)) (length (a .choices .now))) e), P .1)
 
 pub plan-spec : {M : Type 1} → statement M
 plan-spec =
     tie.close
     (tie.spec
-    read-requires
-    enum-known-reading
-    enum-known-reading-2
-    enum-known-reading-3
+    load-requires
     enum-told
+    enum-known-answer
+    enum-known-answer-2
+    enum-told-2
     returns
     returns-2
-    plan-accepted-requires
+    plan-records-requires
     same-length
     same-length-2
     same-length-3

@@ -5,7 +5,7 @@ use mathlib.Core.Path.{_≡_, ap, _∙_}
 use borrow.Author.Needs.{needs}
 use Rattle.sheet.specs.Instance.{instance}
 use Rattle.sheet.proofs.Promises.{counts}
-use Rattle.checker.specs.Check.{place}
+use Rattle.embedding.specs.Plan.{place}
 use Rattle.sheet.specs.declared.Cabinet.{Cabinet}
 use Rattle.finite.proofs.Tests.{all-start}
 use Rattle.checker.proofs.Placing.{KeptBelow, overfull, kept-next, kept-all}

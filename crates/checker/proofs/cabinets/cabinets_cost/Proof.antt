@@ -5,10 +5,10 @@ use mathlib.Core.Path.{_≡_, ap, ap₂, _∙_}
 use borrow.Author.Needs.{needs}
 use Rattle.sheet.specs.Instance.{instance}
 use Rattle.sheet.proofs.Promises.{counts, well-formed}
-use Rattle.checker.specs.Check.{place}
+use Rattle.embedding.specs.Plan.{place}
 use Rattle.sheet.specs.declared.Cabinet.{Cabinet}
 use Rattle.finite.proofs.Sums.{sum-start}
-use Rattle.checker.proofs.Range.{placed-at}
+use Rattle.embedding.proofs.Mappings.{range-test}
 use Rattle.checker.proofs.Placing.{charged, charged-next, charged-all, charged-low, fee-le}
 use Rattle.checker.proofs.cabinets.cabinets_cost.Statement.{statement}
 use Rattle.checker.proofs.cabinets.cabinets_cost.Tie as tie
@@ -40,7 +40,7 @@ cabinet-requires : tie.Need-cabinet-requires Inv-loop μ-loop
 cabinet-requires c κs =
     let a = c .before .before .before .before .before .before .before in
     let l = c .before .before .before .loop in
-    (a .pre .reads, omega (arith, c .wide .ensures, placed-at (instance (a .args .bytes .now)) (place (a .args .plan .now)) (a .pre .range) (l .i) (search needs)))
+    (a .pre .reads, omega (arith, c .wide .ensures, range-test (instance (a .args .bytes .now)) (place (a .args .plan .now)) .0 (a .pre .range) (l .i) (search needs)))
 
 demand-requires : tie.Need-demand-requires Inv-loop μ-loop
 demand-requires c κs =

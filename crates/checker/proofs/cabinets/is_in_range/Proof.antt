@@ -9,7 +9,7 @@ use borrow.Author.Needs.{needs}
 use borrow.Author.Tests.{lt-ltb, le-ltb}
 use Rattle.finite.specs.Below.{all-below}
 use Rattle.finite.proofs.Tests.{all-start, all-next, all-end, all-stop}
-use Rattle.checker.specs.Check.{place}
+use Rattle.embedding.specs.Plan.{place}
 use Rattle.checker.proofs.cabinets.is_in_range.Statement.{statement}
 use Rattle.checker.proofs.cabinets.is_in_range.Tie as tie
 

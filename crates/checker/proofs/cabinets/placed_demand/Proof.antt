@@ -8,7 +8,8 @@ use Rattle.finite.specs.Below.{only, sum-below}
 use Rattle.finite.proofs.Sums.{sum-start, sum-next}
 use Rattle.sheet.specs.Instance.{instance}
 use Rattle.sheet.proofs.Promises.{counts, well-formed}
-use Rattle.checker.specs.Check.{place}
+use Rattle.embedding.specs.Plan.{place}
+use Rattle.embedding.proofs.Reckoning.{demand-sum}
 use Rattle.checker.proofs.Placing.{placed-le}
 use Rattle.checker.proofs.cabinets.placed_demand.Statement.{statement}
 use Rattle.checker.proofs.cabinets.placed_demand.Tie as tie
@@ -81,6 +82,7 @@ returns c =
     let l = c .before .loop in
     let e : l .i ≡ instance (a .args .bytes .now) .r = omega (arith, l .inv .1) in
     l .inv .2 ∙ ap (λ (n : ℕ). sum-below n (λ k. only (eqb (place (a .args .plan .now) k) (a .args .c)) (instance (a .args .bytes .now) .demand k))) e
+    ∙ sym (demand-sum (instance (a .args .bytes .now)) (λ k. eqb (place (a .args .plan .now) k) (a .args .c)))
 
 pub placed-demand-spec : {M : Type 1} → statement M
 placed-demand-spec =

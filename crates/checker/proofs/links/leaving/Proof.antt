@@ -4,7 +4,7 @@ use mathlib.Core.Path.{sym, ap, _∙_}
 use mathlib.Core.Bool.{false, not}
 use mathlib.Core.Logic.{⊎-elim}
 use lib.ListN.{getD}
-use Rattle.checker.specs.Check.{place}
+use Rattle.embedding.specs.Plan.{place}
 use Rattle.checker.proofs.Crossing.{counts, starts-elsewhere, ends-inside}
 use borrow.Author.Needs.{needs}
 use Rattle.checker.proofs.links.leaving.Statement.{statement}

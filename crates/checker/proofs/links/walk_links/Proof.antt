@@ -5,7 +5,7 @@ use mathlib.Core.Path.{_≡_, sym, _∙_, subst}
 use borrow.Author.Needs.{needs}
 use Rattle.sheet.specs.Instance.{instance}
 use Rattle.sheet.proofs.Promises.{counts, well-formed}
-use Rattle.checker.specs.Check.{place}
+use Rattle.embedding.specs.Plan.{place}
 use Rattle.checker.proofs.Walking as walking
 use Rattle.checker.proofs.Walking.{Passed, Counting, up-load, down-load}
 use Rattle.checker.proofs.links.walk_links.Statement.{statement}

@@ -1,0 +1,8 @@
+-- What the proofs of the code share.
+mod Written
+mod Summing
+pub mod Sounding
+mod Filling
+mod Children
+mod Walking
+mod Deciding

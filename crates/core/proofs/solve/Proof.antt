@@ -1,0 +1,73 @@
+-- `solve` meets its contract.
+use Prim.Native.Nat.{ℕ, _-_}
+use mathlib.Core.Path.{refl, sym, ap, _∙_}
+use borrow.Author.Needs.{needs}
+use lib.ListN.{length}
+use lib.ListN.{replicate}
+use Rattle.finite.proofs.Booleans.{clash}
+use Rattle.core.proofs.Deciding.{Fit, fit}
+use Rattle.core.proofs.solve.Statement.{statement}
+use Rattle.core.proofs.solve.Tie as tie
+
+fits-requires : tie.Need-fits-requires
+fits-requires c κs = search needs
+
+-- what fits
+fitted : (c : tie.Then1) → Fit (c .before .before .before .before .before .args .records) (length (c .before .before .before .before .before .args .output .now)) (length (c .before .before .before .before .before .args .costs .now)) (length (c .before .before .before .before .before .args .choices .now))
+fitted c = fit _ _ _ _ (sym (c .before .fits2 .ensures) ∙ c .if1 .taken)
+
+keep-fitting-requires : tie.Need-keep-fitting-requires
+keep-fitting-requires c κs = sym (c .before .before .before .before .fits2 .ensures) ∙ c .before .before .before .if1 .taken
+
+clear-costs-requires : tie.Need-clear-costs-requires
+clear-costs-requires c κs = search needs
+
+clear-choices-requires : tie.Need-clear-choices-requires
+clear-choices-requires c κs = search needs
+
+same-length : tie.Need-same-length
+same-length c = search needs
+
+same-length-2 : tie.Need-same-length-2
+same-length-2 c = search needs
+
+same-length-3 : tie.Need-same-length-3
+same-length-3 c = search needs
+
+returns : tie.Need-returns
+returns c =
+    let K = c .before .before .before .before .before .before .before .before .before .before .before .before .before .before .keep-fitting .ensures in
+    let p = sym (c .before .before .before .before .before .before .before .before .before .before .before .before .before .before .before .before .before .before .before .fits2 .ensures) ∙ c .before .before .before .before .before .before .before .before .before .before .before .before .before .before .before .before .before .before .if1 .taken in
+    let T = fitted (c .before .before .before .before .before .before .before .before .before .before .before .before .before .before .before .before .before .before) in
+    record {
+      answer = λ e. K .0;
+      output = λ e. K .1 .0;
+      tables = λ e. (
+        c .before .before .before .before .before .before .clear-costs .ensures ∙ ap (λ (n : ℕ). replicate n 0) (c .before .before .before .before .before .before .before .before .before .before .before .before .before .before .keep-fitting .kept .1 .1 .0 ∙ T .costs-size),
+        c .before .before .clear-choices .ensures ∙ ap (λ (n : ℕ). replicate n 0) (c .before .before .before .before .before .before .before .before .before .before .before .before .before .before .keep-fitting .kept .1 .1 .1 .0 ∙ T .choices-size),
+      );
+      left = λ e. clash (sym p ∙ e);
+    }
+
+returns-2 : tie.Need-returns-2
+returns-2 c =
+    record {
+      answer = λ e. clash (sym e ∙ sym (c .before .fits2 .ensures) ∙ c .if1 .left);
+      output = λ e. clash (sym e ∙ sym (c .before .fits2 .ensures) ∙ c .if1 .left);
+      tables = λ e. clash (sym e ∙ sym (c .before .fits2 .ensures) ∙ c .if1 .left);
+      left = λ e. (refl, refl, refl, refl);
+    }
+
+pub solve-spec : {M : Type 1} → statement M
+solve-spec =
+    tie.close
+    (tie.spec
+    fits-requires
+    keep-fitting-requires
+    clear-costs-requires
+    clear-choices-requires
+    same-length
+    same-length-2
+    same-length-3
+    returns
+    returns-2)

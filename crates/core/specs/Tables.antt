@@ -1,0 +1,117 @@
+-- What the two tables hold once they are filled: the least charges over the net of the records, and the splits that win.
+-- t is a cost table and u a choice table; a row has 2^r entries, one for each set of services.
+use Prim.Native.Nat.{ℕ, _*_, _^_, _≤_, _<_}
+use mathlib.Core.Path.{_≡_}
+use mathlib.Core.Bool.{Bool, true, false, _&&_}
+use mathlib.Core.List.{List}
+use lib.Dec.{ltb, eqb}
+use lib.ListN.{length, getD, replicate}
+use Rattle.finite.specs.Below.{only}
+use Rattle.subsets.specs.Costs.{Cost, none, some}
+use Rattle.subsets.specs.Inner.Encoded.{figure}
+use Rattle.subsets.specs.Inner.Masks.{full}
+use Rattle.subsets.specs.Inner.Net.{Net}
+use Rattle.subsets.specs.Inner.Rows.{row-at, choice-at}
+use Rattle.subsets.specs.Inner.Count.{weighed}
+use Rattle.subsets.specs.Inner.Back.{seat}
+use Rattle.sheet.specs.Limits.{max-services, max-streams}
+use Rattle.rows.specs.Nodes.{parent-of, record-of}
+use Rattle.core.specs.Sound.{sound}
+use Rattle.rows.specs.Charges.{max-sets, all-sums, own-cost, link-cost}
+use Rattle.core.specs.Sums.{demand-in, flow-out, SumsOf}
+use Rattle.rows.specs.Rebuilds.{entry}
+use Rattle.records.specs.declared.Records.{Records}
+use Rattle.core.specs.declared.Kept.{Kept}
+use Rattle.core.specs.declared.Kept.the-variants.{Plan, NoPlan, Unfit}
+
+-- the net of the records
+abbrev pub netted : Records → Net
+netted k =
+    record {
+      r = k .services;
+      s = k .cabinets;
+      parent = parent-of k;
+      node = λ c x. own-cost (record-of k c) (demand-in (k .demand) (k .services) x);
+      link = λ c x. link-cost (record-of k c) (flow-out (k .from) (k .to) (k .load) (k .streams) x) (flow-out (k .to) (k .from) (k .load) (k .streams) x);
+    }
+
+-- a cost entry: the figure of the least charge of x on p and all cabinets under it
+unfoldable pub cost-entry : Records → ℕ → ℕ → ℕ
+cost-entry k p x = figure (row-at (netted k) p (k .cabinets) x)
+
+-- a choice entry: the services of x that stay when c is joined to its parent; the root, which is joined to none, has 0
+unfoldable pub choice-entry : Records → ℕ → ℕ → ℕ
+choice-entry k c x = only (ltb 0 c) (choice-at (netted k) c x)
+
+-- every entry of a table is that of f
+abbrev pub Entries : Records → (ℕ → ℕ → ℕ) → List ℕ → Type 0
+Entries k f table = (p x : ℕ) → p < k .cabinets → x < 2 ^ k .services → entry (2 ^ k .services) table p x ≡ f p x
+
+-- both tables filled, and the splits weighed on the way
+pub record Filled (k : Records) (t u : List ℕ) (n : ℕ) : Type 0 where
+  pub costs : Entries k (cost-entry k) t
+  pub choices : Entries k (choice-entry k) u
+  pub count : n ≡ weighed (netted k)
+
+-- the entries that a table needs
+abbrev pub entries : Records → ℕ
+entries k = k .cabinets * 2 ^ k .services
+
+-- sound records, rows of 2^r entries, and tables of exactly s rows
+pub record Ready (k : Records) (size : ℕ) (t u : List ℕ) : Type 0 where
+  pub is-sound : sound k ≡ true
+  pub row-size : size ≡ 2 ^ k .services
+  pub costs : length t ≡ k .cabinets * size
+  pub choices : length u ≡ k .cabinets * size
+
+-- where the root's row has a cost for all services, it is the cost of a plan
+abbrev pub decided : Cost → ℕ → Kept
+decided none n = NoPlan n
+decided (some c) n = Plan c n
+
+-- the least charge of all services on the whole tree
+abbrev pub least : Records → Cost
+least k = row-at (netted k) 0 (k .cabinets) (full (k .services))
+
+-- the output after the call: the placing read back from the choices, or what was there
+abbrev pub OutputOf : Records → Kept → List ℕ → List ℕ → Type 0
+OutputOf k (Plan c n) output output' = (i : ℕ) → i < k .services → getD output' i 0 ≡ seat (netted k) (choice-entry k) 0 (k .cabinets) (full (k .services)) i
+OutputOf k (NoPlan n) output output' = output' ≡ output
+OutputOf k Unfit output output' = output' ≡ output
+
+-- sound records, and memory lent of exactly the size that they need
+unfoldable pub fitting : Records → ℕ → ℕ → ℕ → Bool
+fitting k output costs choices = sound k && ((eqb output (k .services) && eqb costs (entries k)) && eqb choices (entries k))
+
+-- what a keeping call gives and leaves: filled tables, or where something does not fit, all as it was
+pub record Keeps (k : Records) (o o' t t' u u' : List ℕ) (a : Kept) : Type 0 where
+  pub answer : fitting k (length o) (length t) (length u) ≡ true → a ≡ decided (least k) (weighed (netted k))
+  pub output : fitting k (length o) (length t) (length u) ≡ true → OutputOf k a o o'
+  pub tables : fitting k (length o) (length t) (length u) ≡ true → Filled k t' u' (weighed (netted k))
+  pub left : fitting k (length o) (length t) (length u) ≡ false → (a ≡ Unfit) × (o' ≡ o) × (t' ≡ t) × (u' ≡ u)
+
+-- what a solving call gives and leaves: the same, with both tables cleared
+pub record Solves (k : Records) (o o' t t' u u' : List ℕ) (a : Kept) : Type 0 where
+  pub answer : fitting k (length o) (length t) (length u) ≡ true → a ≡ decided (least k) (weighed (netted k))
+  pub output : fitting k (length o) (length t) (length u) ≡ true → OutputOf k a o o'
+  pub tables : fitting k (length o) (length t) (length u) ≡ true → (t' ≡ replicate (entries k) 0) × (u' ≡ replicate (entries k) 0)
+  pub left : fitting k (length o) (length t) (length u) ≡ false → (a ≡ Unfit) × (o' ≡ o) × (t' ≡ t) × (u' ≡ u)
+
+-- a choice table of s rows, whatever it holds, to be read back for the set x on p
+pub record Readable (k : Records) (size : ℕ) (u : List ℕ) (p x : ℕ) : Type 0 where
+  pub is-sound : sound k ≡ true
+  pub sets : size ≤ max-sets
+  pub choices : k .cabinets * size ≤ length u
+  pub cabinet : p < k .cabinets
+  pub set : x < size
+
+-- what reading back leaves: the placing that the choices name, whatever they are
+pub record ReadsBack (k : Records) (u o o' : List ℕ) : Type 0 where
+  pub done : fitting k (length o) (length u) (length u) ≡ true
+      → (i : ℕ) → i < k .services → getD o' i 0 ≡ seat (netted k) (entry (2 ^ k .services) u) 0 (k .cabinets) (full (k .services)) i
+  pub left : fitting k (length o) (length u) (length u) ≡ false → o' ≡ o
+
+-- the sums of all sets, where there are no more services and streams than the arrays hold
+pub record Summing (k : Records) (sums : List ℕ) : Type 0 where
+  pub done : k .services ≤ max-services → k .streams ≤ max-streams → SumsOf k (2 ^ k .services) sums
+  pub left : (k .services ≤ max-services → k .streams ≤ max-streams → ⊥) → sums ≡ replicate all-sums 0

@@ -1,0 +1,149 @@
+// The planner's core: both tables filled for the records of a tree, row by row; the root's row decides, and a plan is read back.
+// All public calls are for any records and any tables: what they ask for is tested at their heads.
+ghost use mathlib.Core.Path.{_≡_};
+ghost use mathlib.Core.Bool.{true};
+ghost use Prim.Native.Nat.{_^_, _≤_, _<_};
+ghost use lib.ListN.{length, replicate};
+ghost use Rattle.sheet.specs.Limits.{max-services};
+ghost use Rattle.subsets.specs.Inner.Count.{weighed};
+ghost use Rattle.core.specs.Tables.{netted, fitting, decided, least, OutputOf, Filled, Keeps, Solves, ReadsBack, Summing};
+use records::Records;
+use rows::SUMS;
+use sheet::Sheet;
+
+mod back; // back.rt: the placing read back from the choice table
+mod sound; // sound.rt: whether records are those of a tree within the limits
+mod sums; // sums.rt: sums over every set of services
+mod tables; // tables.rt: both tables, row by row
+
+use back::read_places;
+use sound::is_sound;
+use sums::sums_below;
+use tables::clear_choices;
+use tables::clear_costs;
+use tables::fill;
+
+// What the core answers: the cost of a cheapest plan, or that there is none, and the count of the splits weighed; or that the records are
+// no tree within the limits or the memory lent is not of the size that they need.
+pub enum Kept {
+    Plan { cost: u64, count: u64 },
+    NoPlan { count: u64 },
+    Unfit,
+}
+
+// Sums over all sets of services, row by row.
+pub struct SetSums {
+    pub of: [u32; SUMS],
+}
+
+// A number of 16 bits, wider.
+fn index(x: u16) -> usize
+    ensures { λ r. ⌜ (r ≡ x) × (r < 65536) ⌝ }
+{
+    x as usize
+}
+
+// How many sets of r services there are.
+fn sets_of(r: usize) -> usize
+    requires { ⌜ r ≤ max-services ⌝ }
+    ensures { λ n. ⌜ n ≡ 2 ^ r ⌝ }
+{
+    1 << r
+}
+
+// The sums of all sets, where the counts are within the limits.
+pub fn set_sums(records: Records) -> SetSums
+    ensures { λ s. ⌜ Summing records (s .of) ⌝ }
+{
+    if Sheet::MAX_SERVICES < records.services {
+        return SetSums { of: [0u32; SUMS] };
+    }
+    if Sheet::MAX_STREAMS < records.streams {
+        return SetSums { of: [0u32; SUMS] };
+    }
+    let size = sets_of(records.services);
+    sums_below(records, size)
+}
+
+// Whether the records are sound, and the memory lent is of exactly the size that they need.
+fn fits(records: Records, output: usize, costs: usize, choices: usize) -> bool
+    ensures { λ b. ⌜ b ≡ fitting records output costs choices ⌝ }
+{
+    if is_sound(records) {
+        let entries = records.cabinets * sets_of(records.services);
+        (output == records.services) & (costs == entries) & (choices == entries)
+    } else {
+        false
+    }
+}
+
+// Fills both tables, and decides: a cheapest plan is read back.
+fn keep_fitting(
+    records: Records,
+    output: &mut [u16],
+    costs: &mut [u64],
+    choices: &mut [u16],
+) -> Kept
+    requires { ⌜ fitting records (length (now output)) (length (now costs)) (length (now choices)) ≡ true ⌝ }
+    ensures answer { λ a. ⌜ a ≡ decided (least records) (weighed (netted records)) ⌝ }
+    ensures output { λ a. ⌜ OutputOf records a (now (output .entry)) (now (output .exit)) ⌝ }
+    ensures tables { λ a. ⌜ Filled records (now (costs .exit)) (now (choices .exit)) (weighed (netted records)) ⌝ }
+{
+    let size = sets_of(records.services);
+    let all = size - 1;
+    let count = fill(costs, choices, records, size);
+    let cost = costs[all];
+    if subsets::LIMIT < cost {
+        return Kept::NoPlan { count: count };
+    }
+    read_places(output, records, &choices[..], size, 0, all);
+    Kept::Plan {
+        cost: cost,
+        count: count,
+    }
+}
+
+// Plans, and keeps both tables filled.
+pub fn keep(records: Records, output: &mut [u16], costs: &mut [u64], choices: &mut [u16]) -> Kept
+    ensures { λ a. ⌜ Keeps records (now (output .entry)) (now (output .exit)) (now (costs .entry)) (now (costs .exit)) (now (choices .entry)) (now (choices .exit)) a ⌝ }
+{
+    if fits(records, output.len(), costs.len(), choices.len()) {
+        keep_fitting(records, output, costs, choices)
+    } else {
+        Kept::Unfit
+    }
+}
+
+// Plans, and clears both tables.
+pub fn solve(records: Records, output: &mut [u16], costs: &mut [u64], choices: &mut [u16]) -> Kept
+    ensures { λ a. ⌜ Solves records (now (output .entry)) (now (output .exit)) (now (costs .entry)) (now (costs .exit)) (now (choices .entry)) (now (choices .exit)) a ⌝ }
+{
+    if fits(records, output.len(), costs.len(), choices.len()) {
+        let answer = keep_fitting(records, output, costs, choices);
+        clear_costs(costs);
+        clear_choices(choices);
+        answer
+    } else {
+        Kept::Unfit
+    }
+}
+
+// Clears both tables.
+pub fn clear(costs: &mut [u64], choices: &mut [u16])
+    ensures { λ u. ⌜ (now (costs .exit) ≡ replicate (length (now (costs .entry))) 0) × (now (choices .exit) ≡ replicate (length (now (choices .entry))) 0) ⌝ }
+{
+    clear_costs(costs);
+    clear_choices(choices);
+}
+
+// Reads back the placing of all services on the whole tree, whatever the choices are; where the records are not sound or the memory does not
+// fit them, the output stays.
+pub fn read_back(records: Records, output: &mut [u16], choices: &[u16])
+    ensures { λ u. ⌜ ReadsBack records (now (choices .entry)) (now (output .entry)) (now (output .exit)) ⌝ }
+{
+    let entries = choices.len();
+    if fits(records, output.len(), entries, entries) {
+        let size = sets_of(records.services);
+        read_places(output, records, choices, size, 0, size - 1);
+    }
+}

@@ -1,0 +1,99 @@
+-- What cabinets and links admit and charge, reckoned with sums of demands and loads. A proof that needs the numbers behind these names cites a law of this page.
+use Prim.Native.Nat.{ℕ, _+_, _*_}
+use native.Mathlib.Omega.{arith}
+use mathlib.Core.Path.{_≡_, refl, sym, ap, ap₂, _∙_}
+use mathlib.Core.Bool.{Bool, true, false, _&&_}
+use lib.Dec.{eqb, leb}
+use Rattle.finite.specs.Below.{only, sum-below, all-below}
+use Rattle.finite.proofs.Sums.{sum-ext, sum-mul}
+use Rattle.finite.proofs.Tests.{all-ext}
+use Rattle.subsets.specs.Sets.{has}
+use Rattle.subsets.specs.Costs.{provided}
+use Rattle.sheet.specs.Instance.{Instance}
+use Rattle.embedding.specs.Plan.{demand-of, fits, admits, link-fits, fee, toll, weight, cabinets-keep, cabinets-cost}
+use Rattle.embedding.specs.Inner.Charge.{leaving, entering, cabinet-charge, link-charge}
+
+-- a number that a test lets through, and a factor
+pub only-mul : (t : Bool) (m n : ℕ) → only t m * n ≡ only t (m * n)
+unfolding only
+only-mul true m n = refl
+only-mul false m n = omega arith
+
+module _ (I : Instance) where
+  -- ---- cabinets
+
+  -- the demand of a set, service by service
+  pub demand-sum : (x : ℕ → Bool) → demand-of I x ≡ sum-below (I .r) (λ i. only (x i) (I .demand i))
+  unfolding demand-of
+  demand-sum x = refl
+
+  -- what a cabinet has room for, by demand
+  pub fits-by-demand : (c : ℕ) (x : ℕ → Bool) → fits I c x ≡ leb (demand-of I x) (I .capacity c)
+  unfolding fits
+  fits-by-demand c x = refl
+
+  -- what a cabinet admits, by demand
+  pub admits-by-demand : (c : ℕ) (x : ℕ → Bool) → admits I c x ≡ leb (demand-of I x) (I .capacity c)
+  unfolding admits
+  admits-by-demand = fits-by-demand
+
+  -- the test of the cabinets, by the demand on each of them
+  pub cabinets-by-demand : (π : ℕ → ℕ) → cabinets-keep I π ≡ all-below (I .s) (λ c. leb (demand-of I (λ i. eqb (π i) c)) (I .capacity c))
+  unfolding cabinets-keep
+  cabinets-by-demand π = all-ext (I .s) _ _ (λ c k. fits-by-demand c (λ i. eqb (π i) c))
+
+  -- what the cabinets charge for a plan, service by service
+  pub cabinets-cost-sum : (π : ℕ → ℕ) → cabinets-cost I π ≡ sum-below (I .r) (λ i. I .demand i * I .price (π i))
+  unfolding cabinets-cost fee
+  cabinets-cost-sum π = refl
+
+  -- the fees of a set are its demand at the cabinet's price
+  fees-by-demand : (c : ℕ) (x : ℕ → Bool) → sum-below (I .r) (λ i. only (x i) (fee I c i)) ≡ demand-of I x * I .price c
+  unfolding fee demand-of
+  fees-by-demand c x = sym (sum-mul (I .r) (λ i. only (x i) (I .demand i)) (I .price c) ∙ sum-ext (I .r) _ _ (λ i k. only-mul (x i) (I .demand i) (I .price c)))
+
+  -- what a cabinet charges for a set, by demand
+  pub charge-by-demand : (c x : ℕ) → cabinet-charge I c x ≡ provided (leb (demand-of I (has x)) (I .capacity c)) (demand-of I (has x) * I .price c)
+  unfolding cabinet-charge
+  charge-by-demand c x = ap₂ provided (admits-by-demand c (has x)) (fees-by-demand c (has x))
+
+  -- ---- links
+
+  -- what a link lets through, by its capacities
+  pub link-fits-by-capacity : (c m n : ℕ) → link-fits I c m n ≡ leb m (I .up-capacity c) && leb n (I .down-capacity c)
+  unfolding link-fits
+  link-fits-by-capacity c m n = refl
+
+  -- what a link charges, by its prices
+  pub toll-by-price : (c m n : ℕ) → toll I c m n ≡ m * I .up-price c + n * I .down-price c
+  unfolding toll
+  toll-by-price c m n = refl
+
+  -- a stream takes its demand of a link's capacity
+  pub weight-load : (j : ℕ) → weight I j ≡ I .load j
+  unfolding weight
+  weight-load j = refl
+
+  -- so what leaves a set takes its demand
+  pub leaving-weight : (x : ℕ → Bool) → leaving I (weight I) x ≡ leaving I (I .load) x
+  unfolding leaving
+  leaving-weight x = sum-ext (I .q) _ _ (λ j k. ap (only _) (weight-load j))
+
+  -- and what enters it
+  pub entering-weight : (x : ℕ → Bool) → entering I (weight I) x ≡ entering I (I .load) x
+  unfolding entering
+  entering-weight x = sum-ext (I .q) _ _ (λ j k. ap (only _) (weight-load j))
+
+  -- whether a link lets through what leaves and enters a set, by their demand
+  pub link-fits-by-flows : (c : ℕ) (x : ℕ → Bool) → link-fits I c (leaving I (weight I) x) (entering I (weight I) x)
+      ≡ leb (leaving I (I .load) x) (I .up-capacity c) && leb (entering I (I .load) x) (I .down-capacity c)
+  link-fits-by-flows c x =
+      link-fits-by-capacity c (leaving I (weight I) x) (entering I (weight I) x)
+      ∙ ap₂ (λ (m n : ℕ). leb m (I .up-capacity c) && leb n (I .down-capacity c)) (leaving-weight x) (entering-weight x)
+
+  -- what a link charges for the set under it, by the demand that leaves and enters the set
+  pub charge-by-flows : (c x : ℕ) → link-charge I c x
+      ≡ provided (leb (leaving I (I .load) (has x)) (I .up-capacity c) && leb (entering I (I .load) (has x)) (I .down-capacity c))
+      (leaving I (I .load) (has x) * I .up-price c + entering I (I .load) (has x) * I .down-price c)
+  unfolding link-charge
+  charge-by-flows c x = ap₂ provided (link-fits-by-flows c (has x)) (toll-by-price c (leaving I (I .load) (has x)) (entering I (I .load) (has x)))

@@ -1,0 +1,36 @@
+-- `cabinet_at` meets its contract: an accepted sheet gives every record that it has.
+use mathlib.Core.Path.{sym, _∙_}
+use borrow.Author.Needs.{needs}
+use Rattle.sheet.proofs.Given.{same-cabinet, cabinet-there}
+use Rattle.sheet.proofs.Promises.{cabinet-given}
+use Rattle.records.proofs.loading.cabinet_at.Statement.{statement}
+use Rattle.records.proofs.loading.cabinet_at.Tie as tie
+
+cabinet-requires : tie.Need-cabinet-requires
+cabinet-requires c κs = search needs
+
+enum-known-record : tie.Need-enum-known-record
+enum-known-record c = search needs
+
+enum-told : tie.Need-enum-told
+enum-told c = search needs
+
+returns : tie.Need-returns
+returns c =
+    let a = c .before .before .before .before in
+    absurd (cabinet-there _ (sym (c .enum-told .given .1) ∙ c .before .before .cabinet .ensures ∙ cabinet-given (a .args .bytes .now) (a .args .sheet) (a .pre .0) (a .args .c) (a .pre .1)))
+
+returns-2 : tie.Need-returns-2
+returns-2 c =
+    let a = c .before .before .before .before .before in
+    same-cabinet _ _ (sym (c .before .«record» .given .1) ∙ c .before .before .before .cabinet .ensures ∙ cabinet-given (a .args .bytes .now) (a .args .sheet) (a .pre .0) (a .args .c) (a .pre .1))
+
+pub cabinet-at-spec : {M : Type 1} → statement M
+cabinet-at-spec =
+    tie.close
+    (tie.spec
+    cabinet-requires
+    enum-known-record
+    enum-told
+    returns
+    returns-2)

@@ -1,0 +1,51 @@
+-- `load_accepted` meets its contract: nothing, then the services, the cabinets and the streams are loaded.
+use borrow.Author.Needs.{needs}
+use mathlib.Core.Path.{_∙_}
+use Rattle.sheet.specs.Instance.{instance}
+use Rattle.sheet.proofs.Promises as promises
+use Rattle.records.proofs.Columns.{none-loaded, loaded}
+use Rattle.records.proofs.loading.load_accepted.Statement.{statement}
+use Rattle.records.proofs.loading.load_accepted.Tie as tie
+
+services-requires : tie.Need-services-requires
+services-requires c κs = search needs
+
+cabinets-requires : tie.Need-cabinets-requires
+cabinets-requires c κs = search needs
+
+streams-requires : tie.Need-streams-requires
+streams-requires c κs = search needs
+
+blank-records-requires : tie.Need-blank-records-requires
+blank-records-requires c κs = search needs
+
+with-services-requires : tie.Need-with-services-requires
+with-services-requires c κs =
+    let s = c .before .before .before .before .before in
+    let n = promises.counts (s .args .bytes .now) (s .args .sheet) (s .pre) in (
+      s .pre,
+      rw (c .blank-records .ensures)
+          (none-loaded (instance (s .args .bytes .now)) _ _ _ (c .before .before .before .services .ensures ∙ n .0) (c .before .before .cabinets .ensures ∙ n .1) (c .before .streams .ensures ∙ n .2)),
+    )
+
+with-cabinets-requires : tie.Need-with-cabinets-requires
+with-cabinets-requires c κs = search needs
+
+with-streams-requires : tie.Need-with-streams-requires
+with-streams-requires c κs = search needs
+
+returns : tie.Need-returns
+returns c = loaded _ _ (c .with-streams .ensures)
+
+pub load-accepted-spec : {M : Type 1} → statement M
+load-accepted-spec =
+    tie.close
+    (tie.spec
+    services-requires
+    cabinets-requires
+    streams-requires
+    blank-records-requires
+    with-services-requires
+    with-cabinets-requires
+    with-streams-requires
+    returns)

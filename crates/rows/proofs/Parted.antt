@@ -1,0 +1,102 @@
+-- The rows of a table, and a table after one row of it was lent as a part in its middle.
+use Prim.Native.Nat.{ℕ, _+_, _-_, _*_, _≤_, _<_}
+use native.Mathlib.Nat.{mul-le-mul-right}
+use native.Mathlib.Omega.{arith}
+use mathlib.Core.Logic.{⊎-elim, _⊎_, inl, inr}
+use mathlib.Core.Path.{_≡_, refl, sym, ap, _∙_, subst}
+use mathlib.Core.Bool.{Bool, true, false}
+use mathlib.Core.List.{List, _++_}
+use lib.Dec.{ltb}
+use lib.ListN.{length, getD, take, drop, replicate, length-drop, length-replicate, getD-replicate, List·getD-append}
+use lib.Seq.{getD-append-add, getD-take, getD-drop, length-take-le}
+use borrow.Rule.Slice.PartMut.{putMid, same-len-mid}
+use borrow.Author.Tests.{ltb-true, ltb-false}
+use Rattle.rows.specs.Rebuilds.{entry, RowSet}
+
+-- ---- rows one after the other
+
+-- the row of p ends where that of a later cabinet begins, or before
+pub row-before : (size : ℕ) {p c : ℕ} → p < c → p * size + size ≤ c * size
+row-before size {p} {c} h = omega (arith, mul-le-mul-right {m = p + 1} {n = c} size (omega arith))
+
+-- and within a table of s rows
+pub row-within : (size s : ℕ) {p : ℕ} → p < s → p * size + size ≤ s * size
+row-within size s h = row-before size h
+
+-- ---- a list whose middle part was put back
+
+lt-or-ge : (i m : ℕ) → (i < m) ⊎ (m ≤ i)
+lt-or-ge i m = go (ltb i m) refl
+  where
+    go : (b : Bool) → ltb i m ≡ b → (i < m) ⊎ (m ≤ i)
+    go true e = inl (ltb-true i m e)
+    go false e = inr (ltb-false i m e)
+
+module _ (a k : ℕ) (xs ys : List ℕ) (fits : a + k ≤ length xs) (same : length ys ≡ k) where
+  first : length (take a xs) ≡ a
+  first = length-take-le a xs (omega arith)
+
+  mid-before : (i : ℕ) → i < a → getD (putMid a k xs ys) i 0 ≡ getD xs i 0
+  mid-before i h = List·getD-append (take a xs) _ 0 i (omega (arith, first)) ∙ getD-take a xs i 0 h
+
+  shifted : (i : ℕ) → getD (putMid a k xs ys) (a + i) 0 ≡ getD (ys ++ drop k (drop a xs)) i 0
+  shifted i = ap (λ (n : ℕ). getD (putMid a k xs ys) (n + i) 0) (sym first) ∙ getD-append-add (take a xs) (ys ++ drop k (drop a xs)) i 0
+
+  mid-inside : (i : ℕ) → i < k → getD (putMid a k xs ys) (a + i) 0 ≡ getD ys i 0
+  mid-inside i h = shifted i ∙ List·getD-append ys (drop k (drop a xs)) 0 i (omega arith)
+
+  mid-after : (i : ℕ) → a + k ≤ i → getD (putMid a k xs ys) i 0 ≡ getD xs i 0
+  mid-after i h =
+      let j : ℕ = i - (a + k) in
+      let e : i ≡ a + (length ys + j) = omega arith in
+      ap (λ (n : ℕ). getD (putMid a k xs ys) n 0) e ∙ shifted (length ys + j) ∙ getD-append-add ys (drop k (drop a xs)) j 0
+      ∙ getD-drop k (drop a xs) j 0 ∙ getD-drop a xs (k + j) 0 ∙ ap (λ (n : ℕ). getD xs n 0) (omega arith)
+
+-- ---- a row lent
+
+-- the row of p, as the code lends it, and the table once such a row is back
+abbrev pub row-of : ℕ → ℕ → List ℕ → List ℕ
+row-of size p t = take (p * size + size - p * size) (drop (p * size) t)
+
+abbrev pub put-row : ℕ → ℕ → List ℕ → List ℕ → List ℕ
+put-row size p t ys = putMid (p * size) (p * size + size - p * size) t ys
+
+module _ (size p : ℕ) (t : List ℕ) (fits : p * size + size ≤ length t) where
+  -- as long as a row is
+  pub row-length : length (row-of size p t) ≡ size
+  row-length =
+      let e : p * size + size - p * size ≡ size = omega arith in
+      rw e (length-take-le size (drop (p * size) t) (omega (arith, length-drop (p * size) t)))
+
+  -- with the table's entries
+  pub row-entry : (x : ℕ) → x < size → getD (row-of size p t) x 0 ≡ entry size t p x
+  row-entry x h =
+      getD-take (p * size + size - p * size) (drop (p * size) t) x 0 (omega arith) ∙ getD-drop (p * size) t x 0
+
+  module _ (ys : List ℕ) (same : length ys ≡ length (row-of size p t)) where
+    -- the table keeps its length
+    pub put-length : length (put-row size p t ys) ≡ length t
+    put-length = same-len-mid (p * size) (p * size + size - p * size) t ys same
+
+    -- the table with another row there
+    put : (f : ℕ → ℕ) → ((x : ℕ) → x < size → getD ys x 0 ≡ f x) → RowSet size p f t (put-row size p t ys)
+    put f g =
+        let long : length ys ≡ size = same ∙ row-length in
+        record {
+          row = λ x h. mid-inside (p * size) (p * size + size - p * size) t ys (omega arith) (omega arith) x (omega arith) ∙ g x h;
+          rest = λ d x n h. ⊎-elim
+              (λ l. mid-before (p * size) (p * size + size - p * size) t ys (omega arith) (omega arith) (d * size + x) (omega (arith, row-before size l)))
+              (λ l. mid-after (p * size) (p * size + size - p * size) t ys (omega arith) (omega arith) (d * size + x)
+              (omega (arith, row-before size (let z : p < d = omega arith in z)))) (lt-or-ge d p);
+        }
+
+    -- the same, with the row's size under another name
+    pub row-put : {z : ℕ} → size ≡ z → (f : ℕ → ℕ) → ((x : ℕ) → x < z → getD ys x 0 ≡ f x) → RowSet z p f t (put-row size p t ys)
+    row-put e f = subst (λ (z : ℕ). ((x : ℕ) → x < z → getD ys x 0 ≡ f x) → RowSet z p f t (put-row size p t ys)) e (put f)
+
+-- ---- a table whose first row was cleared
+
+pub zeros-first : (size n : ℕ) (ys zs : List ℕ) (x : ℕ) → ys ≡ replicate n 0 → x < n → entry size (ys ++ zs) 0 x ≡ 0
+zeros-first size n ys zs x e h =
+    rw e (ap (λ (i : ℕ). getD (replicate n 0 ++ zs) i 0) (let z : 0 * size + x ≡ x = omega arith in z)
+    ∙ List·getD-append (replicate n 0) zs 0 x (omega (arith, length-replicate {A = ℕ} n 0)) ∙ getD-replicate n x 0 0 h)

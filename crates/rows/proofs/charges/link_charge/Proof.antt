@@ -1,0 +1,65 @@
+-- `link_charge` meets its contract: the products have at most 48 bits.
+use Prim.Native.Nat.{_-_, _<_, _≤_}
+use native.Mathlib.Omega.{arith}
+use borrow.Author.Needs.{needs}
+use borrow.Author.Tests.{le-leb, lt-leb}
+use Rattle.subsets.specs.Costs.{provided}
+use Rattle.subsets.specs.Inner.Encoded.{figure}
+use Rattle.rows.proofs.charges.link_charge.Statement.{statement}
+use Rattle.rows.proofs.charges.link_charge.Tie as tie
+
+word-requires : tie.Need-word-requires
+word-requires c κs = search needs
+
+wide-requires : tie.Need-wide-requires
+wide-requires c κs = search needs
+
+returns : tie.Need-returns
+unfolding figure provided
+returns c =
+    let h : c .before .before .before .args .k .«up_capacity» < c .before .before .before .args .up = omega (arith, c .if1 .taken) in
+    simp (lt-leb _ _ h)
+
+word-requires-2 : tie.Need-word-requires-2
+word-requires-2 c κs = search needs
+
+wide-requires-2 : tie.Need-wide-requires-2
+wide-requires-2 c κs = search needs
+
+returns-2 : tie.Need-returns-2
+unfolding figure provided
+returns-2 c =
+    let h : c .before .before .before .before .before .before .args .up ≤ c .before .before .before .before .before .before .args .k .«up_capacity» = omega (arith, c .before .before .before .if1 .left) in
+    let l : c .before .before .before .before .before .before .args .k .«down_capacity» < c .before .before .before .before .before .before .args .down = omega (arith, c .if2 .taken) in
+    simp (le-leb _ _ h, lt-leb _ _ l)
+
+priced-requires : tie.Need-priced-requires
+priced-requires c κs = search needs
+
+priced-requires-2 : tie.Need-priced-requires-2
+priced-requires-2 c κs = search needs
+
+add-result : tie.Need-add-result
+add-result c = search needs
+
+returns-3 : tie.Need-returns-3
+unfolding figure provided
+returns-3 c =
+    let h : c .before .before .before .before .before .before .before .before .args .up ≤ c .before .before .before .before .before .before .before .before .args .k .«up_capacity» = omega (arith, c .before .before .before .before .before .if1 .left) in
+    let l : c .before .before .before .before .before .before .before .before .args .down ≤ c .before .before .before .before .before .before .before .before .args .k .«down_capacity» = omega (arith, c .before .before .if2 .left) in
+    simp (le-leb _ _ h, le-leb _ _ l) (omega (arith, c .priced2 .ensures .0, c .before .priced .ensures .0))
+
+pub link-charge-spec : {M : Type 1} → statement M
+link-charge-spec =
+    tie.close
+    (tie.spec
+    word-requires
+    wide-requires
+    returns
+    word-requires-2
+    wide-requires-2
+    returns-2
+    priced-requires
+    priced-requires-2
+    add-result
+    returns-3)

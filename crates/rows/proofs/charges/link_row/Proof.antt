@@ -1,0 +1,90 @@
+-- `link_row` meets its contract.
+use Prim.Native.Nat.{ℕ, _-_, _≤_, _<_}
+use native.Mathlib.Omega.{arith}
+use mathlib.Core.Path.{_≡_}
+use borrow.Author.Needs.{needs}
+use lib.ListN.{length, getD, length-set}
+use Rattle.rows.specs.Charges.{link-figure, run-out, run-in}
+use Rattle.rows.proofs.Written.{next-written}
+use Rattle.rows.proofs.charges.link_row.Statement.{statement}
+use Rattle.rows.proofs.charges.link_row.Tie as tie
+
+abbrev Inv-loop : tie.InvT-loop
+Inv-loop link₀ sums k size x₀ link x = (x ≤ size) × (length link ≡ length link₀) × ((d : ℕ) → d < x → getD link d 0 ≡ link-figure k (run-out sums d) (run-in sums d))
+
+abbrev μ-loop : tie.MeasureT-loop
+μ-loop link₀ sums k size x₀ link x = size - x
+
+loop-holds : tie.Need-loop-holds Inv-loop μ-loop
+loop-holds c = (search needs, search needs, λ d l. absurd (omega arith))
+
+add-link-charge : tie.Need-add-link-charge Inv-loop μ-loop
+add-link-charge c = search needs
+
+mul-link-charge : tie.Need-mul-link-charge Inv-loop μ-loop
+mul-link-charge c = search needs
+
+shared-slice-read-link-charge : tie.Need-shared-slice-read-link-charge Inv-loop μ-loop
+shared-slice-read-link-charge c = search needs
+
+mul-link-charge-2 : tie.Need-mul-link-charge-2 Inv-loop μ-loop
+mul-link-charge-2 c = search needs
+
+add-link-charge-2 : tie.Need-add-link-charge-2 Inv-loop μ-loop
+add-link-charge-2 c = search needs
+
+mul-link-charge-3 : tie.Need-mul-link-charge-3 Inv-loop μ-loop
+mul-link-charge-3 c = search needs
+
+shared-slice-read-link-charge-2 : tie.Need-shared-slice-read-link-charge-2 Inv-loop μ-loop
+shared-slice-read-link-charge-2 c = search needs
+
+link-charge-requires : tie.Need-link-charge-requires Inv-loop μ-loop
+link-charge-requires c κs = search needs
+
+mul-link : tie.Need-mul-link Inv-loop μ-loop
+mul-link c = search needs
+
+slice-write-link : tie.Need-slice-write-link Inv-loop μ-loop
+slice-write-link c = search needs
+
+add-x : tie.Need-add-x Inv-loop μ-loop
+add-x c = search needs
+
+loop-less : tie.Need-loop-less Inv-loop μ-loop
+loop-less c = search needs
+
+loop-again : tie.Need-loop-again Inv-loop μ-loop
+loop-again c =
+    let a = c .before .before .before .before .before .before .before .args in
+    let l = c .before .before .before .before .loop in
+    (omega arith, simp length-set (l .inv .1), next-written (l .link) (l .x) (c .link-charge .result) (λ d. link-figure (a .k) (run-out (a .sums .now) d) (run-in (a .sums .now) d)) (omega arith) (c .link-charge .ensures) (l .inv .2))
+
+same-length : tie.Need-same-length Inv-loop μ-loop
+same-length c = search needs
+
+returns : tie.Need-returns Inv-loop μ-loop
+returns c = λ x l. c .before .loop .inv .2 x (omega arith)
+
+pub link-row-spec : {M : Type 1} → statement M
+link-row-spec =
+    tie.close
+    (tie.spec
+    Inv-loop
+    μ-loop
+    loop-holds
+    add-link-charge
+    mul-link-charge
+    shared-slice-read-link-charge
+    mul-link-charge-2
+    add-link-charge-2
+    mul-link-charge-3
+    shared-slice-read-link-charge-2
+    link-charge-requires
+    mul-link
+    slice-write-link
+    add-x
+    loop-less
+    loop-again
+    same-length
+    returns)

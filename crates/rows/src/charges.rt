@@ -1,0 +1,76 @@
+// What cabinets and links charge for every set of services.
+ghost use mathlib.Core.Path.{_≡_};
+ghost use Prim.Native.Nat.{ℕ, _*_, _≤_, _<_};
+ghost use lib.ListN.{length, getD};
+ghost use Rattle.rows.specs.Charges.{max-sets, all-sums, own-figure, link-figure, demanded, run-out, run-in};
+use crate::Node;
+use crate::SETS;
+use subsets::NONE;
+
+fn wide(x: u32) -> u64
+    ensures { λ r. ⌜ (r ≡ x) × (r < 4294967296) ⌝ }
+{
+    x as u64
+}
+
+fn word(x: u16) -> u64
+    ensures { λ r. ⌜ (r ≡ x) × (r < 65536) ⌝ }
+{
+    x as u64
+}
+
+// So much demand at a price: 32 bits times 16 bits.
+fn priced(sum: u32, price: u16) -> u64
+    ensures { λ r. ⌜ (r ≡ sum * price) × (r < 281474976710656) ⌝ }
+{
+    let s = wide(sum);
+    let p = word(price);
+    s * p
+}
+
+// What a cabinet charges for services of so much demand.
+fn own_charge(demand: u32, k: Node) -> u64
+    ensures { λ n. ⌜ n ≡ own-figure k demand ⌝ }
+{
+    if word(k.capacity) < wide(demand) {
+        return NONE;
+    }
+    priced(demand, k.price)
+}
+
+// What the link above a cabinet charges for so much demand upwards and downwards.
+fn link_charge(up: u32, down: u32, k: Node) -> u64
+    ensures { λ n. ⌜ n ≡ link-figure k up down ⌝ }
+{
+    if word(k.up_capacity) < wide(up) {
+        return NONE;
+    }
+    if word(k.down_capacity) < wide(down) {
+        return NONE;
+    }
+    priced(up, k.up_price) + priced(down, k.down_price)
+}
+
+// The row of a cabinet alone.
+pub(crate) fn fill_own(row: &mut [u64], sums: &[u32], k: Node)
+    requires { ⌜ (length (now row) ≤ max-sets) × (all-sums ≤ length (now sums)) ⌝ }
+    ensures { λ u. ⌜ ((x : ℕ) → x < length (now (row .entry)) → getD (now (row .exit)) x 0 ≡ own-figure k (demanded (now (sums .entry)) x)) ⌝ }
+{
+    let mut x = 0;
+    while x < row.len() {
+        row[x] = own_charge(sums[x], k);
+        x += 1;
+    }
+}
+
+// What the link above a cabinet charges for every set below size.
+pub(crate) fn link_row(link: &mut [u64], sums: &[u32], k: Node, size: usize)
+    requires { ⌜ (size ≤ length (now link)) × (size ≤ max-sets) × (all-sums ≤ length (now sums)) ⌝ }
+    ensures { λ u. ⌜ ((x : ℕ) → x < size → getD (now (link .exit)) x 0 ≡ link-figure k (run-out (now (sums .entry)) x) (run-in (now (sums .entry)) x)) ⌝ }
+{
+    let mut x = 0;
+    while x < size {
+        link[x] = link_charge(sums[SETS + x], sums[2 * SETS + x], k);
+        x += 1;
+    }
+}
