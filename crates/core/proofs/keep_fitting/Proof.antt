@@ -17,6 +17,67 @@ use Rattle.core.proofs.Deciding.{Fit, fit, no-plan, some-plan, same-pla
 use Rattle.core.proofs.keep_fitting.Statement.{statement}
 use Rattle.core.proofs.keep_fitting.Tie as tie
 
+-- the nodes of the function that its needs reach back to
+abbrev sets-of-before-fill-arg2 : tie.After-fill-arg2 → tie.After-sets-of
+sets-of-before-fill-arg2 c = c .before .before
+
+abbrev start-before-fill-arg2 : tie.After-fill-arg2 → tie.Start
+start-before-fill-arg2 c = c .before .before .before .before .before .before
+
+abbrev fill-before-read-places-arg2 : tie.After-read-places-arg2 → tie.After-fill
+fill-before-read-places-arg2 c = c .before .before .before .before .before .before .before .before
+
+abbrev sets-of-before-read-places-arg2 : tie.After-read-places-arg2 → tie.After-sets-of
+sets-of-before-read-places-arg2 c = c .before .before .before .before .before .before .before .before .before .before .before
+
+abbrev start-before-read-places-arg2 : tie.After-read-places-arg2 → tie.Start
+start-before-read-places-arg2 c = c .before .before .before .before .before .before .before .before .before .before .before .before .before .before .before
+
+abbrev start-before-sets-of : tie.After-sets-of → tie.Start
+start-before-sets-of c = c .before .before .before .before
+
+abbrev start-before-slice-known3 : tie.After-slice-known3 → tie.Start
+start-before-slice-known3 c = c .before .before .before
+
+abbrev sets-of-before-slice-known5 : tie.After-slice-known5 → tie.After-sets-of
+sets-of-before-slice-known5 c = c .before .before .before .before .before .before .before
+
+abbrev start-before-slice-known5 : tie.After-slice-known5 → tie.Start
+start-before-slice-known5 c = c .before .before .before .before .before .before .before .before .before .before .before
+
+abbrev fill-before-slice-known6 : tie.After-slice-known6 → tie.After-fill
+fill-before-slice-known6 c = c .before .before .before .before .before
+
+abbrev sets-of-before-slice-known6 : tie.After-slice-known6 → tie.After-sets-of
+sets-of-before-slice-known6 c = c .before .before .before .before .before .before .before .before
+
+abbrev start-before-slice-known6 : tie.After-slice-known6 → tie.Start
+start-before-slice-known6 c = c .before .before .before .before .before .before .before .before .before .before .before .before
+
+abbrev fill-before-slice-known7 : tie.After-slice-known7 → tie.After-fill
+fill-before-slice-known7 c = c .before .before .before .before .before .before .before .before .before .before .before
+
+abbrev read-places-before-slice-known7 : tie.After-slice-known7 → tie.After-read-places
+read-places-before-slice-known7 c = c .before .before
+
+abbrev sets-of-before-slice-known7 : tie.After-slice-known7 → tie.After-sets-of
+sets-of-before-slice-known7 c = c .before .before .before .before .before .before .before .before .before .before .before .before .before .before
+
+abbrev else1-before-slice-known7 : tie.After-slice-known7 → tie.Else1
+else1-before-slice-known7 c = c .before .before .before .before .before
+
+abbrev start-before-slice-known7 : tie.After-slice-known7 → tie.Start
+start-before-slice-known7 c = c .before .before .before .before .before .before .before .before .before .before .before .before .before .before .before .before .before .before
+
+abbrev fill-before-then1 : tie.Then1 → tie.After-fill
+fill-before-then1 c = c .before .before .before .before .before .before
+
+abbrev sets-of-before-then1 : tie.Then1 → tie.After-sets-of
+sets-of-before-then1 c = c .before .before .before .before .before .before .before .before .before
+
+abbrev start-before-then1 : tie.Then1 → tie.Start
+start-before-then1 c = c .before .before .before .before .before .before .before .before .before .before .before .before .before
+
 -- what fits
 fitted : (c : tie.Start) → Fit (c .args .records) (length (c .args .output .now)) (length (c .args .costs .now)) (length (c .args .choices .now))
 fitted c = fit _ _ _ _ (c .pre)
@@ -25,29 +86,29 @@ sounds : (c : tie.Start) → Good (c .args .records)
 sounds c = good _ (fitted c .is-sound)
 
 sets-of-requires : tie.Need-sets-of-requires
-sets-of-requires c κs = sounds (c .before .before .before) .services
+sets-of-requires c κs = sounds (start-before-slice-known3 c) .services
 
 sub-all : tie.Need-sub-all
-sub-all c = omega (arith, c .sets-of .ensures, pow-pos (c .before .before .before .before .args .records .services))
+sub-all c = omega (arith, c .sets-of .ensures, pow-pos (start-before-sets-of c .args .records .services))
 
 fill-requires : tie.Need-fill-requires
 fill-requires c κs =
-    let e : c .before .before .sets-of .result ≡ 2 ^ c .before .before .before .before .before .before .args .records .services = c .before .before .sets-of .ensures in
+    let e : sets-of-before-fill-arg2 c .sets-of .result ≡ 2 ^ start-before-fill-arg2 c .args .records .services = sets-of-before-fill-arg2 c .sets-of .ensures in
     record {
-      is-sound = fitted (c .before .before .before .before .before .before) .is-sound;
+      is-sound = fitted (start-before-fill-arg2 c) .is-sound;
       row-size = e;
-      costs = fitted (c .before .before .before .before .before .before) .costs-size ∙ ap (λ (n : ℕ). c .before .before .before .before .before .before .args .records .cabinets * n) (sym e);
-      choices = fitted (c .before .before .before .before .before .before) .choices-size ∙ ap (λ (n : ℕ). c .before .before .before .before .before .before .args .records .cabinets * n) (sym e);
+      costs = fitted (start-before-fill-arg2 c) .costs-size ∙ ap (λ (n : ℕ). start-before-fill-arg2 c .args .records .cabinets * n) (sym e);
+      choices = fitted (start-before-fill-arg2 c) .choices-size ∙ ap (λ (n : ℕ). start-before-fill-arg2 c .args .records .cabinets * n) (sym e);
     }
 
 mul-cost : tie.Need-mul-cost
-mul-cost c = omega (arith, c .before .before .before .before .before .before .before .sets-of .ensures, sets-le _ (sounds (c .before .before .before .before .before .before .before .before .before .before .before)))
+mul-cost c = omega (arith, sets-of-before-slice-known5 c .sets-of .ensures, sets-le _ (sounds (start-before-slice-known5 c)))
 
 slice-read-cost : tie.Need-slice-read-cost
 slice-read-cost c =
-    let k = c .before .before .before .before .before .before .before .before .before .before .before .before .args .records in
-    let e : c .before .before .before .before .before .before .before .before .sets-of .result ≡ 2 ^ k .services = c .before .before .before .before .before .before .before .before .sets-of .ensures in
-    omega (arith, e, c .before .before .before .before .before .fill .kept .0, fitted (c .before .before .before .before .before .before .before .before .before .before .before .before) .costs-size, row-within (2 ^ k .services) (k .cabinets) (sounds (c .before .before .before .before .before .before .before .before .before .before .before .before) .some-cabinet), pow-pos (k .services))
+    let k = start-before-slice-known6 c .args .records in
+    let e : sets-of-before-slice-known6 c .sets-of .result ≡ 2 ^ k .services = sets-of-before-slice-known6 c .sets-of .ensures in
+    omega (arith, e, fill-before-slice-known6 c .fill .kept .0, fitted (start-before-slice-known6 c) .costs-size, row-within (2 ^ k .services) (k .cabinets) (sounds (start-before-slice-known6 c) .some-cabinet), pow-pos (k .services))
 
 same-length : tie.Need-same-length
 same-length c = search needs
@@ -57,20 +118,20 @@ same-length-2 c = search needs
 
 returns : tie.Need-returns
 returns c =
-    let k = c .before .before .before .before .before .before .before .before .before .before .before .before .before .args .records in
-    let e : c .before .before .before .before .before .before .before .before .before .sets-of .result ≡ 2 ^ k .services = c .before .before .before .before .before .before .before .before .before .sets-of .ensures in
-    let big : limit < getD (c .before .before .before .before .before .before .fill .last .0) (2 ^ k .services - 1) 0 = subst (λ (n : ℕ). limit < getD (c .before .before .before .before .before .before .fill .last .0) (n - 1) 0) e (c .if1 .taken) in
-    (no-plan k (sounds (c .before .before .before .before .before .before .before .before .before .before .before .before .before)) _ _ _ (c .before .before .before .before .before .before .fill .ensures) big, (refl, filled k (sounds (c .before .before .before .before .before .before .before .before .before .before .before .before .before)) _ _ _ (c .before .before .before .before .before .before .fill .ensures)))
+    let k = start-before-then1 c .args .records in
+    let e : sets-of-before-then1 c .sets-of .result ≡ 2 ^ k .services = sets-of-before-then1 c .sets-of .ensures in
+    let big : limit < getD (fill-before-then1 c .fill .last .0) (2 ^ k .services - 1) 0 = subst (λ (n : ℕ). limit < getD (fill-before-then1 c .fill .last .0) (n - 1) 0) e (c .if1 .taken) in
+    (no-plan k (sounds (start-before-then1 c)) _ _ _ (fill-before-then1 c .fill .ensures) big, (refl, filled k (sounds (start-before-then1 c)) _ _ _ (fill-before-then1 c .fill .ensures)))
 
 read-places-requires : tie.Need-read-places-requires
 read-places-requires c κs =
-    let k = c .before .before .before .before .before .before .before .before .before .before .before .before .before .before .before .args .records in
-    let e : c .before .before .before .before .before .before .before .before .before .before .before .sets-of .result ≡ 2 ^ k .services = c .before .before .before .before .before .before .before .before .before .before .before .sets-of .ensures in
+    let k = start-before-read-places-arg2 c .args .records in
+    let e : sets-of-before-read-places-arg2 c .sets-of .result ≡ 2 ^ k .services = sets-of-before-read-places-arg2 c .sets-of .ensures in
     record {
-      is-sound = fitted (c .before .before .before .before .before .before .before .before .before .before .before .before .before .before .before) .is-sound;
-      sets = omega (arith, e, sets-le _ (sounds (c .before .before .before .before .before .before .before .before .before .before .before .before .before .before .before)));
-      choices = omega (arith, c .before .before .before .before .before .before .before .before .fill .kept .1 .0, fitted (c .before .before .before .before .before .before .before .before .before .before .before .before .before .before .before) .choices-size, ap (λ (n : ℕ). k .cabinets * n) e);
-      cabinet = sounds (c .before .before .before .before .before .before .before .before .before .before .before .before .before .before .before) .some-cabinet;
+      is-sound = fitted (start-before-read-places-arg2 c) .is-sound;
+      sets = omega (arith, e, sets-le _ (sounds (start-before-read-places-arg2 c)));
+      choices = omega (arith, fill-before-read-places-arg2 c .fill .kept .1 .0, fitted (start-before-read-places-arg2 c) .choices-size, ap (λ (n : ℕ). k .cabinets * n) e);
+      cabinet = sounds (start-before-read-places-arg2 c) .some-cabinet;
       set = omega (arith, e, pow-pos (k .services));
     }
 
@@ -85,17 +146,17 @@ same-length-5 c = search needs
 
 returns-2 : tie.Need-returns-2
 returns-2 c =
-    let k = c .before .before .before .before .before .before .before .before .before .before .before .before .before .before .before .before .before .before .args .records in
-    let G = sounds (c .before .before .before .before .before .before .before .before .before .before .before .before .before .before .before .before .before .before) in
-    let F = c .before .before .before .before .before .before .before .before .before .before .before .fill .ensures in
-    let e : c .before .before .before .before .before .before .before .before .before .before .before .before .before .before .sets-of .result ≡ 2 ^ k .services = c .before .before .before .before .before .before .before .before .before .before .before .before .before .before .sets-of .ensures in
-    let t = c .before .before .before .before .before .before .before .before .before .before .before .fill .last .0 in
-    let v : ℕ = getD t (c .before .before .before .before .before .before .before .before .before .before .before .before .before .before .sets-of .result - 1) 0 in
+    let k = start-before-slice-known7 c .args .records in
+    let G = sounds (start-before-slice-known7 c) in
+    let F = fill-before-slice-known7 c .fill .ensures in
+    let e : sets-of-before-slice-known7 c .sets-of .result ≡ 2 ^ k .services = sets-of-before-slice-known7 c .sets-of .ensures in
+    let t = fill-before-slice-known7 c .fill .last .0 in
+    let v : ℕ = getD t (sets-of-before-slice-known7 c .sets-of .result - 1) 0 in
     let s : v ≡ getD t (2 ^ k .services - 1) 0 = ap (λ (n : ℕ). getD t (n - 1) 0) e in (
-      subst (λ (m : ℕ). Plan m (c .before .before .before .before .before .before .before .before .before .before .before .fill .result) ≡ decided (least k) (weighed (netted k))) (sym s) (some-plan k G _ _ _ F (omega (arith, s, c .before .before .before .before .before .if1 .left))),
+      subst (λ (m : ℕ). Plan m (fill-before-slice-known7 c .fill .result) ≡ decided (least k) (weighed (netted k))) (sym s) (some-plan k G _ _ _ F (omega (arith, s, else1-before-slice-known7 c .if1 .left))),
       (
-        λ i l. c .before .before .read-places .ensures i (omega (arith, fitted (c .before .before .before .before .before .before .before .before .before .before .before .before .before .before .before .before .before .before) .output-size))
-            ∙ ap (λ (n : ℕ). seat (netted k) (entry n (c .before .before .before .before .before .before .before .before .before .before .before .fill .last .1 .0)) 0 (k .cabinets) (n - 1) i) e
+        λ i l. read-places-before-slice-known7 c .read-places .ensures i (omega (arith, fitted (start-before-slice-known7 c) .output-size))
+            ∙ ap (λ (n : ℕ). seat (netted k) (entry n (fill-before-slice-known7 c .fill .last .1 .0)) 0 (k .cabinets) (n - 1) i) e
             ∙ same-places k G _ _ _ F (2 ^ k .services - 1) i (omega (arith, pow-pos (k .services))),
         filled k G _ _ _ F,
       ),

@@ -8,6 +8,22 @@ use Rattle.planner.proofs.Bounding.{many-services, no-cabinets, many-ca
 use Rattle.planner.proofs.bound.Statement.{statement}
 use Rattle.planner.proofs.bound.Tie as tie
 
+-- the nodes of the function that its needs reach back to
+abbrev power-of-three-before-enum-told : tie.After-enum-told → tie.After-power-of-three
+power-of-three-before-enum-told c = c .before .before
+
+abbrev power-of-three-before-known-told : tie.After-known-told → tie.After-power-of-three
+power-of-three-before-known-told c = c .before .before .before
+
+abbrev else2-before-known-told : tie.After-known-told → tie.Else2
+else2-before-known-told c = c .before .before .before .before .before
+
+abbrev else3-before-known-told : tie.After-known-told → tie.Else3
+else3-before-known-told c = c .before .before .before .before
+
+abbrev start-before-known-told : tie.After-known-told → tie.Start
+start-before-known-told c = c .before .before .before .before .before .before .before
+
 returns : tie.Need-returns
 returns c = many-services _ _ (c .if1 .taken)
 
@@ -27,17 +43,17 @@ enum-told : tie.Need-enum-told
 enum-told c = search needs
 
 returns-4 : tie.Need-returns-4
-returns-4 c = no-power _ _ _ (c .before .before .power-of-three .ensures) (c .enum-told .given .1)
+returns-4 c = no-power _ _ _ (power-of-three-before-enum-told c .power-of-three .ensures) (c .enum-told .given .1)
 
 mul-t12 : tie.Need-mul-t12
 mul-t12 c =
-    let p = power-value (c .before .before .before .before .before .before .before .args .services) (c .before .before .before .before .before .before .before .args .cabinets) _ _ (c .before .before .before .power-of-three .ensures) (c .before .power .given .1) in
-    omega (arith, ap (λ (n : ℕ). (c .before .before .before .before .before .before .before .args .cabinets - 1) * n) (p .1), bound-fits (c .before .before .before .before .before .before .before .args .services) (c .before .before .before .before .before .before .before .args .cabinets) (p .0) (c .before .before .before .before .if3 .left))
+    let p = power-value (start-before-known-told c .args .services) (start-before-known-told c .args .cabinets) _ _ (power-of-three-before-known-told c .power-of-three .ensures) (c .before .power .given .1) in
+    omega (arith, ap (λ (n : ℕ). (start-before-known-told c .args .cabinets - 1) * n) (p .1), bound-fits (start-before-known-told c .args .services) (start-before-known-told c .args .cabinets) (p .0) (else3-before-known-told c .if3 .left))
 
 returns-5 : tie.Need-returns-5
 returns-5 c =
-    let p = power-value (c .before .before .before .before .before .before .before .args .services) (c .before .before .before .before .before .before .before .args .cabinets) _ _ (c .before .before .before .power-of-three .ensures) (c .before .power .given .1) in
-    ap (λ (n : ℕ). AtMost ((c .before .before .before .before .before .before .before .args .cabinets - 1) * n)) (p .1) ∙ within _ _ (p .0) (c .before .before .before .before .before .if2 .left) (c .before .before .before .before .if3 .left)
+    let p = power-value (start-before-known-told c .args .services) (start-before-known-told c .args .cabinets) _ _ (power-of-three-before-known-told c .power-of-three .ensures) (c .before .power .given .1) in
+    ap (λ (n : ℕ). AtMost ((start-before-known-told c .args .cabinets - 1) * n)) (p .1) ∙ within _ _ (p .0) (else2-before-known-told c .if2 .left) (else3-before-known-told c .if3 .left)
 
 pub bound-spec : {M : Type 1} → statement M
 bound-spec =

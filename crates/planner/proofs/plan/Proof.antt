@@ -14,6 +14,37 @@ use Rattle.planner.proofs.Lending.{handed-on}
 use Rattle.planner.proofs.plan.Statement.{statement}
 use Rattle.planner.proofs.plan.Tie as tie
 
+-- the nodes of the function that its needs reach back to
+abbrev answer-before-known-told2 : tie.After-known-told2 → tie.After-answer
+answer-before-known-told2 c = c .before .before .before .before
+
+abbrev load-before-known-told2 : tie.After-known-told2 → tie.After-load
+load-before-known-told2 c = c .before .before .before .before .before .before
+
+abbrev start-before-known-told2 : tie.After-known-told2 → tie.Start
+start-before-known-told2 c = c .before .before .before .before .before .before .before .before .before .before .before
+
+abbrev enum-told-before-plan-records-arg3 : tie.After-plan-records-arg3 → tie.After-enum-told
+enum-told-before-plan-records-arg3 c = c .before .before .before
+
+abbrev load-before-plan-records-arg3 : tie.After-plan-records-arg3 → tie.After-load
+load-before-plan-records-arg3 c = c .before .before .before .before .before
+
+abbrev start-before-plan-records-arg3 : tie.After-plan-records-arg3 → tie.Start
+start-before-plan-records-arg3 c = c .before .before .before .before .before .before .before .before .before .before
+
+abbrev enum-told-before-slice-known6 : tie.After-slice-known6 → tie.After-enum-told
+enum-told-before-slice-known6 c = c .before .before .before .before .before .before .before .before .before .before
+
+abbrev load-before-slice-known6 : tie.After-slice-known6 → tie.After-load
+load-before-slice-known6 c = c .before .before .before .before .before .before .before .before .before .before .before .before
+
+abbrev plan-records-before-slice-known6 : tie.After-slice-known6 → tie.After-plan-records
+plan-records-before-slice-known6 c = c .before .before .before .before .before .before
+
+abbrev start-before-slice-known6 : tie.After-slice-known6 → tie.Start
+start-before-slice-known6 c = c .before .before .before .before .before .before .before .before .before .before .before .before .before .before .before .before .before
+
 load-requires : tie.Need-load-requires
 load-requires c κs = search needs
 
@@ -35,17 +66,17 @@ returns c = search needs
 returns-2 : tie.Need-returns-2
 unfolding planned
 returns-2 c =
-    let a = c .before .before .before .before .before .before .before .before .before .before .before .args in
+    let a = start-before-known-told2 c .args in
     let I = instance (a .sheet .now) in
-    let e = sym (c .before .before .before .before .before .before .load .ensures .0) ∙ c .before .before .before .before .answer .given .1 ∙ c .before .answer2 .given .1 in (
+    let e = sym (load-before-known-told2 c .load .ensures .0) ∙ answer-before-known-told2 c .answer .given .1 ∙ c .before .answer2 .given .1 in (
       sym (ap (λ (o : Reading). answers.answered o I (length (a .output .now)) (length (a .costs .now)) (length (a .choices .now))) e),
       (refl, (handed-on I (a .sheet .now) _ (a .costs .now) e, handed-on I (a .sheet .now) _ (a .choices .now) e)),
     )
 
 plan-records-requires : tie.Need-plan-records-requires
 plan-records-requires c κs =
-    let e = sym (c .before .before .before .before .before .load .ensures .0) ∙ c .before .before .before .enum-told .given .1 in
-    subst WellFormed (sym (c .before .before .before .before .before .load .ensures .1 .accepted _ e)) (well-formed (c .before .before .before .before .before .before .before .before .before .before .args .sheet .now) _ e)
+    let e = sym (load-before-plan-records-arg3 c .load .ensures .0) ∙ enum-told-before-plan-records-arg3 c .enum-told .given .1 in
+    subst WellFormed (sym (load-before-plan-records-arg3 c .load .ensures .1 .accepted _ e)) (well-formed (start-before-plan-records-arg3 c .args .sheet .now) _ e)
 
 same-length : tie.Need-same-length
 same-length c = search needs
@@ -59,15 +90,15 @@ same-length-3 c = search needs
 returns-3 : tie.Need-returns-3
 unfolding planned
 returns-3 c =
-    let a = c .before .before .before .before .before .before .before .before .before .before .before .before .before .before .before .before .before .args in
+    let a = start-before-slice-known6 c .args in
     let I = instance (a .sheet .now) in
-    let e = sym (c .before .before .before .before .before .before .before .before .before .before .before .before .load .ensures .0) ∙ c .before .before .before .before .before .before .before .before .before .before .enum-told .given .1 in
-    let p = c .before .before .before .before .before .before .plan-records in
+    let e = sym (load-before-slice-known6 c .load .ensures .0) ∙ enum-told-before-slice-known6 c .enum-told .given .1 in
+    let p = plan-records-before-slice-known6 c .plan-records in
     let P = subst (λ (J : Instance).
     (p .result ≡ lent (first-applying (lender-rules J (length (a .output .now)) (length (a .costs .now)) (length (a .choices .now)))) J)
     × (OutputAfter J (p .result) (a .output .now) (p .last .1 .0)
     × ((p .last .1 .1 .0 ≡ table-after J (p .result) (a .costs .now)) × (p .last .1 .1 .1 .0 ≡ table-after J (p .result) (a .choices .now)))))
-    (c .before .before .before .before .before .before .before .before .before .before .before .before .load .ensures .1 .accepted _ e) (p .ensures) in
+    (load-before-slice-known6 c .load .ensures .1 .accepted _ e) (p .ensures) in
     (P .0 ∙ sym (ap (λ (o : Reading). answers.answered o I (length (a .output .now)) (length (a .costs .now)) (length (a .choices .now))) e), P .1)
 
 pub plan-spec : {M : Type 1} → statement M

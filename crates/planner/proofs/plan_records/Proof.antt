@@ -16,56 +16,123 @@ use Rattle.planner.proofs.Lending.{sets-le, short-output, short-costs, 
 use Rattle.planner.proofs.plan_records.Statement.{statement}
 use Rattle.planner.proofs.plan_records.Tie as tie
 
+-- the nodes of the function that its needs reach back to
+abbrev start-before-sets-of : tie.After-sets-of → tie.Start
+start-before-sets-of c = c .before .before .before .before
+
+abbrev start-before-slice-known3 : tie.After-slice-known3 → tie.Start
+start-before-slice-known3 c = c .before .before .before
+
+abbrev sets-of-before-slice-known6 : tie.After-slice-known6 → tie.After-sets-of
+sets-of-before-slice-known6 c = c .before .before .before .before .before .before .before .before .before .before .before .before .before .before
+
+abbrev solve-before-slice-known6 : tie.After-slice-known6 → tie.After-solve
+solve-before-slice-known6 c = c .before .before .before .before .before .before
+
+abbrev else1-before-slice-known6 : tie.After-slice-known6 → tie.Else1
+else1-before-slice-known6 c = c .before .before .before .before .before .before .before .before .before .before .before .before
+
+abbrev else2-before-slice-known6 : tie.After-slice-known6 → tie.Else2
+else2-before-slice-known6 c = c .before .before .before .before .before .before .before .before .before .before .before
+
+abbrev else3-before-slice-known6 : tie.After-slice-known6 → tie.Else3
+else3-before-slice-known6 c = c .before .before .before .before .before .before .before .before .before .before
+
+abbrev start-before-slice-known6 : tie.After-slice-known6 → tie.Start
+start-before-slice-known6 c = c .before .before .before .before .before .before .before .before .before .before .before .before .before .before .before .before .before .before
+
+abbrev else1-before-solve-arg : tie.After-solve-arg → tie.Else1
+else1-before-solve-arg c = c .before .before .before
+
+abbrev else2-before-solve-arg2 : tie.After-solve-arg2 → tie.Else2
+else2-before-solve-arg2 c = c .before .before .before
+
+abbrev sets-of-before-solve-arg3 : tie.After-solve-arg3 → tie.After-sets-of
+sets-of-before-solve-arg3 c = c .before .before .before .before .before .before .before
+
+abbrev else1-before-solve-arg3 : tie.After-solve-arg3 → tie.Else1
+else1-before-solve-arg3 c = c .before .before .before .before .before
+
+abbrev else2-before-solve-arg3 : tie.After-solve-arg3 → tie.Else2
+else2-before-solve-arg3 c = c .before .before .before .before
+
+abbrev else3-before-solve-arg3 : tie.After-solve-arg3 → tie.Else3
+else3-before-solve-arg3 c = c .before .before .before
+
+abbrev start-before-solve-arg3 : tie.After-solve-arg3 → tie.Start
+start-before-solve-arg3 c = c .before .before .before .before .before .before .before .before .before .before .before
+
+abbrev start-before-struct-known : tie.After-struct-known → tie.Start
+start-before-struct-known c = c .before .before .before .before .before
+
+abbrev start-before-then1 : tie.Then1 → tie.Start
+start-before-then1 c = c .before .before .before .before .before .before
+
+abbrev sets-of-before-then2 : tie.Then2 → tie.After-sets-of
+sets-of-before-then2 c = c .before .before .before
+
+abbrev start-before-then2 : tie.Then2 → tie.Start
+start-before-then2 c = c .before .before .before .before .before .before .before
+
+abbrev sets-of-before-then3 : tie.Then3 → tie.After-sets-of
+sets-of-before-then3 c = c .before .before .before .before
+
+abbrev else1-before-then3 : tie.Then3 → tie.Else1
+else1-before-then3 c = c .before .before
+
+abbrev start-before-then3 : tie.Then3 → tie.Start
+start-before-then3 c = c .before .before .before .before .before .before .before .before
+
 sets-of-requires : tie.Need-sets-of-requires
 unfolding told
-sets-of-requires c κs = c .before .before .before .pre .services
+sets-of-requires c κs = start-before-slice-known3 c .pre .services
 
 -- the entries that the code reckons are those of the instance
-entries-is : (c : tie.After-sets-of) → c .before .before .before .before .args .records .cabinets * c .sets-of .result ≡ entries (told (c .before .before .before .before .args .records))
+entries-is : (c : tie.After-sets-of) → start-before-sets-of c .args .records .cabinets * c .sets-of .result ≡ entries (told (start-before-sets-of c .args .records))
 unfolding told
-entries-is c = ap (λ (n : ℕ). c .before .before .before .before .args .records .cabinets * n) (c .sets-of .ensures)
+entries-is c = ap (λ (n : ℕ). start-before-sets-of c .args .records .cabinets * n) (c .sets-of .ensures)
 
 mul-entries : tie.Need-mul-entries
 unfolding told
 mul-entries c =
-    let I = told (c .before .before .before .before .before .args .records) in
-    omega (arith, entries-is (c .before), mul-le-mul (c .before .before .before .before .before .pre .cabinets) (sets-le I (c .before .before .before .before .before .pre)))
+    let I = told (start-before-struct-known c .args .records) in
+    omega (arith, entries-is (c .before), mul-le-mul (start-before-struct-known c .pre .cabinets) (sets-le I (start-before-struct-known c .pre)))
 
 returns : tie.Need-returns
 unfolding told
-returns c = (short-output (told (c .before .before .before .before .before .before .args .records)) _ _ _ (c .if1 .taken), (refl, (refl, refl)))
+returns c = (short-output (told (start-before-then1 c .args .records)) _ _ _ (c .if1 .taken), (refl, (refl, refl)))
 
 returns-2 : tie.Need-returns-2
 unfolding told
-returns-2 c = (short-costs (told (c .before .before .before .before .before .before .before .args .records)) _ _ _ (c .before .if1 .left) (omega (arith, entries-is (c .before .before .before), c .if2 .taken)), (refl, (refl, refl)))
+returns-2 c = (short-costs (told (start-before-then2 c .args .records)) _ _ _ (c .before .if1 .left) (omega (arith, entries-is (sets-of-before-then2 c), c .if2 .taken)), (refl, (refl, refl)))
 
 returns-3 : tie.Need-returns-3
 unfolding told
-returns-3 c = (short-choices (told (c .before .before .before .before .before .before .before .before .args .records)) _ _ _ (c .before .before .if1 .left) (omega (arith, entries-is (c .before .before .before .before), c .if3 .taken)), (refl, (refl, refl)))
+returns-3 c = (short-choices (told (start-before-then3 c .args .records)) _ _ _ (else1-before-then3 c .if1 .left) (omega (arith, entries-is (sets-of-before-then3 c), c .if3 .taken)), (refl, (refl, refl)))
 
 slice-relend-prefix-solve : tie.Need-slice-relend-prefix-solve
 slice-relend-prefix-solve c = search needs
 
 slice-aggregate-solve : tie.Need-slice-aggregate-solve
-slice-aggregate-solve c = sym (length-take-le _ _ (c .before .before .before .if1 .left))
+slice-aggregate-solve c = sym (length-take-le _ _ (else1-before-solve-arg c .if1 .left))
 
 slice-relend-prefix-solve-2 : tie.Need-slice-relend-prefix-solve-2
 slice-relend-prefix-solve-2 c = search needs
 
 slice-aggregate-solve-2 : tie.Need-slice-aggregate-solve-2
-slice-aggregate-solve-2 c = sym (length-take-le _ _ (c .before .before .before .if2 .left))
+slice-aggregate-solve-2 c = sym (length-take-le _ _ (else2-before-solve-arg2 c .if2 .left))
 
 slice-relend-prefix-solve-3 : tie.Need-slice-relend-prefix-solve-3
 slice-relend-prefix-solve-3 c = search needs
 
 slice-aggregate-solve-3 : tie.Need-slice-aggregate-solve-3
-slice-aggregate-solve-3 c = sym (length-take-le _ _ (c .before .before .before .if3 .left))
+slice-aggregate-solve-3 c = sym (length-take-le _ _ (else3-before-solve-arg3 c .if3 .left))
 
 solve-requires : tie.Need-solve-requires
 unfolding told
 solve-requires c κs =
-    let n = entries-is (c .before .before .before .before .before .before .before) in
-    (c .before .before .before .before .before .before .before .before .before .before .before .pre, (length-take-le _ _ (c .before .before .before .before .before .if1 .left), (length-take-le _ _ (c .before .before .before .before .if2 .left) ∙ n, length-take-le _ _ (c .before .before .before .if3 .left) ∙ n)))
+    let n = entries-is (sets-of-before-solve-arg3 c) in
+    (start-before-solve-arg3 c .pre, (length-take-le _ _ (else1-before-solve-arg3 c .if1 .left), (length-take-le _ _ (else2-before-solve-arg3 c .if2 .left) ∙ n, length-take-le _ _ (else3-before-solve-arg3 c .if3 .left) ∙ n)))
 
 same-length : tie.Need-same-length
 same-length c = search needs
@@ -79,19 +146,19 @@ same-length-3 c = search needs
 returns-4 : tie.Need-returns-4
 unfolding told
 returns-4 c =
-    let a = c .before .before .before .before .before .before .before .before .before .before .before .before .before .before .before .before .before .before .args in
+    let a = start-before-slice-known6 c .args in
     let I = told (a .records) in
-    let n = entries-is (c .before .before .before .before .before .before .before .before .before .before .before .before .before .before) in
-    let S = c .before .before .before .before .before .before .solve .ensures in
-    let part = c .before .before .before .before .before .before .solve .last .1 .0 in (
-      S .0 ∙ enough I _ _ _ (c .before .before .before .before .before .before .before .before .before .before .before .before .if1 .left) (omega (arith, n, c .before .before .before .before .before .before .before .before .before .before .before .if2 .left)) (omega (arith, n, c .before .before .before .before .before .before .before .before .before .before .if3 .left)),
+    let n = entries-is (sets-of-before-slice-known6 c) in
+    let S = solve-before-slice-known6 c .solve .ensures in
+    let part = solve-before-slice-known6 c .solve .last .1 .0 in (
+      S .0 ∙ enough I _ _ _ (else1-before-slice-known6 c .if1 .left) (omega (arith, n, else2-before-slice-known6 c .if2 .left)) (omega (arith, n, else3-before-slice-known6 c .if3 .left)),
       (
-        output-lifted I (c .before .before .before .before .before .before .before .before .before .before .before .before .before .before .before .before .before .before .pre) (c .before .before .before .before .before .before .solve .result) (a .output .now) part (c .before .before .before .before .before .before .solve .kept .1 .0 ∙ length-take-le _ _ (c .before .before .before .before .before .before .before .before .before .before .before .before .if1 .left)) (S .1 .0),
+        output-lifted I (start-before-slice-known6 c .pre) (solve-before-slice-known6 c .solve .result) (a .output .now) part (solve-before-slice-known6 c .solve .kept .1 .0 ∙ length-take-le _ _ (else1-before-slice-known6 c .if1 .left)) (S .1 .0),
         (
-          subst (λ (m : ℕ). c .before .before .before .before .before .before .solve .last .1 .1 .0 ++ drop m (a .costs .now) ≡ table-after I (c .before .before .before .before .before .before .solve .result) (a .costs .now)) (sym n)
-              (table-lifted I (c .before .before .before .before .before .before .solve .result) (cheapest I) (weighed I) (a .costs .now) (c .before .before .before .before .before .before .solve .last .1 .1 .0) (S .0) (S .1 .1 .0)),
-          subst (λ (m : ℕ). c .before .before .before .before .before .before .solve .last .1 .1 .1 .0 ++ drop m (a .choices .now) ≡ table-after I (c .before .before .before .before .before .before .solve .result) (a .choices .now)) (sym n)
-              (table-lifted I (c .before .before .before .before .before .before .solve .result) (cheapest I) (weighed I) (a .choices .now) (c .before .before .before .before .before .before .solve .last .1 .1 .1 .0) (S .0) (S .1 .1 .1)),
+          subst (λ (m : ℕ). solve-before-slice-known6 c .solve .last .1 .1 .0 ++ drop m (a .costs .now) ≡ table-after I (solve-before-slice-known6 c .solve .result) (a .costs .now)) (sym n)
+              (table-lifted I (solve-before-slice-known6 c .solve .result) (cheapest I) (weighed I) (a .costs .now) (solve-before-slice-known6 c .solve .last .1 .1 .0) (S .0) (S .1 .1 .0)),
+          subst (λ (m : ℕ). solve-before-slice-known6 c .solve .last .1 .1 .1 .0 ++ drop m (a .choices .now) ≡ table-after I (solve-before-slice-known6 c .solve .result) (a .choices .now)) (sym n)
+              (table-lifted I (solve-before-slice-known6 c .solve .result) (cheapest I) (weighed I) (a .choices .now) (solve-before-slice-known6 c .solve .last .1 .1 .1 .0) (S .0) (S .1 .1 .1)),
         ),
       ),
     )

@@ -9,6 +9,19 @@ use Rattle.sheet.specs.declared.Reading.the-variants.{Accepted, Refused}
 use Rattle.records.proofs.load.Statement.{statement}
 use Rattle.records.proofs.load.Tie as tie
 
+-- the nodes of the function that its needs reach back to
+abbrev read-before-blank-records : tie.After-blank-records → tie.After-read
+read-before-blank-records c = c .before .before .before
+
+abbrev read-before-known-told : tie.After-known-told → tie.After-read
+read-before-known-told c = c .before .before .before
+
+abbrev answer-before-load-accepted : tie.After-load-accepted → tie.After-answer
+answer-before-load-accepted c = c .before .before
+
+abbrev read-before-load-accepted : tie.After-load-accepted → tie.After-read
+read-before-load-accepted c = c .before .before .before .before
+
 not-both : {A : Type 0} (h : Sheet) (f : Refusal) → Accepted h ≡ Refused f → A
 not-both h f e = absurd (let z : _≡_ {A = ℕ} 0 1 = cc in omega arith)
 
@@ -26,16 +39,16 @@ blank-records-requires c κs = search needs
 
 returns : tie.Need-returns
 returns c =
-    let r = c .before .before .before .read .ensures in
+    let r = read-before-blank-records c .read .ensures in
     let e = sym r ∙ c .before .enum-told .given .1 in
     (r, record { accepted = λ h q. not-both _ _ (sym q ∙ e); refused = λ f q. c .blank-records .ensures })
 
 load-accepted-requires : tie.Need-load-accepted-requires
-load-accepted-requires c κs = sym (c .before .before .before .read .ensures) ∙ c .before .answer .given .1
+load-accepted-requires c κs = sym (read-before-known-told c .read .ensures) ∙ c .before .answer .given .1
 
 returns-2 : tie.Need-returns-2
 returns-2 c =
-    let e = sym (c .before .before .before .before .read .ensures) ∙ c .before .before .answer .given .1 in
+    let e = sym (read-before-load-accepted c .read .ensures) ∙ answer-before-load-accepted c .answer .given .1 in
     (sym e, record { accepted = λ h q. c .load-accepted .ensures; refused = λ f q. not-both _ _ (sym e ∙ q) })
 
 pub load-spec : {M : Type 1} → statement M

@@ -14,17 +14,42 @@ Inv-loop size records r q of₀ x₀ of x = (x ≤ size) × SumsOf records x of
 abbrev μ-loop : tie.MeasureT-loop
 μ-loop size records r q of₀ x₀ of x = size - x
 
+-- the nodes of the function that its needs reach back to
+abbrev start-before-demand-of-arg : tie.After-demand-of-arg Inv-loop μ-loop → tie.Start Inv-loop μ-loop
+start-before-demand-of-arg c = c .before .before .before .before
+
+abbrev start-before-flow-of-arg3 : tie.After-flow-of-arg3 Inv-loop μ-loop → tie.Start Inv-loop μ-loop
+start-before-flow-of-arg3 c = c .before .before .before .before .before .before .before .before .before
+
+abbrev start-before-flow-of-arg6 : tie.After-flow-of-arg6 Inv-loop μ-loop → tie.Start Inv-loop μ-loop
+start-before-flow-of-arg6 c = c .before .before .before .before .before .before .before .before .before .before .before .before .before .before
+
+abbrev demand-of-before-flow-of2 : tie.After-flow-of2 Inv-loop μ-loop → tie.After-demand-of Inv-loop μ-loop
+demand-of-before-flow-of2 c = c .before .before .before .before .before .before .before .before .before .before
+
+abbrev flow-of-before-flow-of2 : tie.After-flow-of2 Inv-loop μ-loop → tie.After-flow-of Inv-loop μ-loop
+flow-of-before-flow-of2 c = c .before .before .before .before .before
+
+abbrev at-loop-before-flow-of2 : tie.After-flow-of2 Inv-loop μ-loop → tie.At-loop Inv-loop μ-loop
+at-loop-before-flow-of2 c = c .before .before .before .before .before .before .before .before .before .before .before .before .before .before
+
+abbrev start-before-flow-of2 : tie.After-flow-of2 Inv-loop μ-loop → tie.Start Inv-loop μ-loop
+start-before-flow-of2 c = c .before .before .before .before .before .before .before .before .before .before .before .before .before .before .before
+
+abbrev start-before-loop : tie.After-loop Inv-loop μ-loop → tie.Start Inv-loop μ-loop
+start-before-loop c = c .before .before
+
 loop-holds : tie.Need-loop-holds Inv-loop μ-loop
 loop-holds c = (search needs, summed-start _ _ refl)
 
 demand-of-requires : tie.Need-demand-of-requires Inv-loop μ-loop
-demand-of-requires c κs = omega (arith, c .before .before .before .before .pre)
+demand-of-requires c κs = omega (arith, start-before-demand-of-arg c .pre)
 
 flow-of-requires : tie.Need-flow-of-requires Inv-loop μ-loop
-flow-of-requires c κs = omega (arith, c .before .before .before .before .before .before .before .before .before .pre)
+flow-of-requires c κs = omega (arith, start-before-flow-of-arg3 c .pre)
 
 flow-of-requires-2 : tie.Need-flow-of-requires-2 Inv-loop μ-loop
-flow-of-requires-2 c κs = omega (arith, c .before .before .before .before .before .before .before .before .before .before .before .before .before .before .pre)
+flow-of-requires-2 c κs = omega (arith, start-before-flow-of-arg6 c .pre)
 
 mul-of : tie.Need-mul-of Inv-loop μ-loop
 mul-of c = search needs
@@ -61,11 +86,11 @@ loop-less c = search needs
 
 loop-again : tie.Need-loop-again Inv-loop μ-loop
 loop-again c =
-    let a = c .before .before .before .before .before .before .before .before .before .before .before .before .before .before .before .args in
-    (omega arith, summed-next (a .t1) (c .before .before .before .before .before .before .before .before .before .before .before .before .before .before .loop .x) (c .before .before .before .before .before .before .before .before .before .before .before .before .before .before .loop .of) _ _ _ (omega arith) (c .before .before .before .before .before .before .before .before .before .before .before .before .before .before .loop .inv .1) (c .before .before .before .before .before .before .before .before .before .before .demand-of .ensures) (c .before .before .before .before .before .flow-of .ensures) (c .flow-of2 .ensures))
+    let a = start-before-flow-of2 c .args in
+    (omega arith, summed-next (a .t1) (at-loop-before-flow-of2 c .loop .x) (at-loop-before-flow-of2 c .loop .of) _ _ _ (omega arith) (at-loop-before-flow-of2 c .loop .inv .1) (demand-of-before-flow-of2 c .demand-of .ensures) (flow-of-before-flow-of2 c .flow-of .ensures) (c .flow-of2 .ensures))
 
 returns : tie.Need-returns Inv-loop μ-loop
-returns c = summed-all (c .before .before .args .t1) (c .before .before .args .size) (c .before .loop .x) (c .before .loop .of) (omega arith) (c .before .loop .inv .1)
+returns c = summed-all (start-before-loop c .args .t1) (start-before-loop c .args .size) (c .before .loop .x) (c .before .loop .of) (omega arith) (c .before .loop .inv .1)
 
 pub sums-below-spec : {M : Type 1} → statement M
 sums-below-spec =

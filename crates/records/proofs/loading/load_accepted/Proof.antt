@@ -7,6 +7,13 @@ use Rattle.records.proofs.Columns.{none-loaded, loaded}
 use Rattle.records.proofs.loading.load_accepted.Statement.{statement}
 use Rattle.records.proofs.loading.load_accepted.Tie as tie
 
+-- the nodes of the function that its needs reach back to
+abbrev cabinets-before-blank-records : tie.After-blank-records → tie.After-cabinets
+cabinets-before-blank-records c = c .before .before
+
+abbrev services-before-blank-records : tie.After-blank-records → tie.After-services
+services-before-blank-records c = c .before .before .before
+
 services-requires : tie.Need-services-requires
 services-requires c κs = search needs
 
@@ -25,7 +32,7 @@ with-services-requires c κs =
     let n = promises.counts (s .args .bytes .now) (s .args .sheet) (s .pre) in (
       s .pre,
       rw (c .blank-records .ensures)
-          (none-loaded (instance (s .args .bytes .now)) _ _ _ (c .before .before .before .services .ensures ∙ n .0) (c .before .before .cabinets .ensures ∙ n .1) (c .before .streams .ensures ∙ n .2)),
+          (none-loaded (instance (s .args .bytes .now)) _ _ _ (services-before-blank-records c .services .ensures ∙ n .0) (cabinets-before-blank-records c .cabinets .ensures ∙ n .1) (c .before .streams .ensures ∙ n .2)),
     )
 
 with-cabinets-requires : tie.Need-with-cabinets-requires

@@ -17,20 +17,39 @@ Inv-loop sheet bytes next₀ n i₀ next i = Loading (instance bytes) i 0 0 next
 abbrev μ-loop : tie.MeasureT-loop
 μ-loop sheet bytes next₀ n i₀ next i = n - i
 
+-- the nodes of the function that its needs reach back to
+abbrev start-before-loop : tie.After-loop Inv-loop μ-loop → tie.Start Inv-loop μ-loop
+start-before-loop c = c .before .before .before
+
+abbrev at-loop-before-narrow : tie.After-narrow Inv-loop μ-loop → tie.At-loop Inv-loop μ-loop
+at-loop-before-narrow c = c .before .before .before
+
+abbrev start-before-narrow : tie.After-narrow Inv-loop μ-loop → tie.Start Inv-loop μ-loop
+start-before-narrow c = c .before .before .before .before .before
+
+abbrev at-loop-before-service-at : tie.After-service-at Inv-loop μ-loop → tie.At-loop Inv-loop μ-loop
+at-loop-before-service-at c = c .before .before
+
+abbrev start-before-service-at : tie.After-service-at Inv-loop μ-loop → tie.Start Inv-loop μ-loop
+start-before-service-at c = c .before .before .before .before
+
+abbrev start-before-in-loop : tie.In-loop Inv-loop μ-loop → tie.Start Inv-loop μ-loop
+start-before-in-loop c = c .before .before .before
+
 loop-holds : tie.Need-loop-holds Inv-loop μ-loop
 loop-holds c = (c .before .pre .1, omega arith)
 
 service-at-requires : tie.Need-service-at-requires Inv-loop μ-loop
-service-at-requires c κs = (c .before .before .before .pre .0, omega (arith, c .before .loop .inv .0 .services, c .before .before .before .pre .1 .services))
+service-at-requires c κs = (start-before-in-loop c .pre .0, omega (arith, c .before .loop .inv .0 .services, start-before-in-loop c .pre .1 .services))
 
-well : (c : tie.After-service-at Inv-loop μ-loop) → WellFormed (instance (c .before .before .before .before .args .bytes .now))
-well c = well-formed (c .before .before .before .before .args .bytes .now) (c .before .before .before .before .args .sheet) (c .before .before .before .before .pre .0)
+well : (c : tie.After-service-at Inv-loop μ-loop) → WellFormed (instance (start-before-service-at c .args .bytes .now))
+well c = well-formed (start-before-service-at c .args .bytes .now) (start-before-service-at c .args .sheet) (start-before-service-at c .pre .0)
 
-place : (c : tie.After-service-at Inv-loop μ-loop) → c .before .before .loop .i < 10
-place c = omega (arith, well c .services, c .before .before .before .before .pre .1 .services)
+place : (c : tie.After-service-at Inv-loop μ-loop) → at-loop-before-service-at c .loop .i < 10
+place c = omega (arith, well c .services, start-before-service-at c .pre .1 .services)
 
 narrow-requires : tie.Need-narrow-requires Inv-loop μ-loop
-narrow-requires c κs = omega (arith, ap (λ (k : Service). k .demand) (c .service-at .ensures), well c .demands (c .before .before .loop .i))
+narrow-requires c κs = omega (arith, ap (λ (k : Service). k .demand) (c .service-at .ensures), well c .demands (at-loop-before-service-at c .loop .i))
 
 mul-next : tie.Need-mul-next Inv-loop μ-loop
 mul-next c = omega (arith, place (c .before))
@@ -46,9 +65,9 @@ loop-less c = search needs
 
 loop-again : tie.Need-loop-again Inv-loop μ-loop
 loop-again c =
-    let l = c .before .before .before .loop in
+    let l = at-loop-before-narrow c .loop in
     let L = l .inv .0 in
-    let I = instance (c .before .before .before .before .before .args .bytes .now) in (
+    let I = instance (start-before-narrow c .args .bytes .now) in (
       record {
         services = L .services;
         cabinets = L .cabinets;
@@ -70,9 +89,9 @@ loop-again c =
 
 returns : tie.Need-returns Inv-loop μ-loop
 returns c =
-    let I = instance (c .before .before .before .args .bytes .now) in
+    let I = instance (start-before-loop c .args .bytes .now) in
     let l = c .before .loop in
-    let e : l .i ≡ I .r = omega (arith, c .before .before .before .pre .1 .services, l .inv .1) in
+    let e : l .i ≡ I .r = omega (arith, start-before-loop c .pre .1 .services, l .inv .1) in
     subst (λ (n : ℕ). Loading I n 0 0 (l .next)) e (l .inv .0)
 
 pub with-services-spec : {M : Type 1} → statement M

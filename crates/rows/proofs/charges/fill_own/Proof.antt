@@ -15,6 +15,13 @@ Inv-loop row₀ sums k x₀ row x = (x ≤ length row₀) × (length row ≡ len
 abbrev μ-loop : tie.MeasureT-loop
 μ-loop row₀ sums k x₀ row x = length row₀ - x
 
+-- the nodes of the function that its needs reach back to
+abbrev at-loop-before-own-charge : tie.After-own-charge Inv-loop μ-loop → tie.At-loop Inv-loop μ-loop
+at-loop-before-own-charge c = c .before .before .before
+
+abbrev start-before-own-charge : tie.After-own-charge Inv-loop μ-loop → tie.Start Inv-loop μ-loop
+start-before-own-charge c = c .before .before .before .before .before .before
+
 loop-holds : tie.Need-loop-holds Inv-loop μ-loop
 loop-holds c = (search needs, search needs, λ d l. absurd (omega arith))
 
@@ -41,8 +48,8 @@ loop-less c = search needs
 
 loop-again : tie.Need-loop-again Inv-loop μ-loop
 loop-again c =
-    let a = c .before .before .before .before .before .before .args in
-    let l = c .before .before .before .loop in
+    let a = start-before-own-charge c .args in
+    let l = at-loop-before-own-charge c .loop in
     (omega arith, simp length-set (l .inv .1), next-written (l .row) (l .x) (c .own-charge .result) (λ d. own-figure (a .k) (demanded (a .sums .now) d)) (omega arith) (c .own-charge .ensures) (l .inv .2))
 
 same-length : tie.Need-same-length Inv-loop μ-loop

@@ -8,6 +8,25 @@ use Rattle.subsets.specs.Inner.Encoded.{figure}
 use Rattle.rows.proofs.charges.link_charge.Statement.{statement}
 use Rattle.rows.proofs.charges.link_charge.Tie as tie
 
+-- the nodes of the function that its needs reach back to
+abbrev else1-before-priced2 : tie.After-priced2 → tie.Else1
+else1-before-priced2 c = c .before .before .before .before .before
+
+abbrev else2-before-priced2 : tie.After-priced2 → tie.Else2
+else2-before-priced2 c = c .before .before
+
+abbrev start-before-priced2 : tie.After-priced2 → tie.Start
+start-before-priced2 c = c .before .before .before .before .before .before .before .before
+
+abbrev start-before-then1 : tie.Then1 → tie.Start
+start-before-then1 c = c .before .before .before
+
+abbrev else1-before-then2 : tie.Then2 → tie.Else1
+else1-before-then2 c = c .before .before .before
+
+abbrev start-before-then2 : tie.Then2 → tie.Start
+start-before-then2 c = c .before .before .before .before .before .before
+
 word-requires : tie.Need-word-requires
 word-requires c κs = search needs
 
@@ -17,7 +36,7 @@ wide-requires c κs = search needs
 returns : tie.Need-returns
 unfolding figure provided
 returns c =
-    let h : c .before .before .before .args .k .«up_capacity» < c .before .before .before .args .up = omega (arith, c .if1 .taken) in
+    let h : start-before-then1 c .args .k .«up_capacity» < start-before-then1 c .args .up = omega (arith, c .if1 .taken) in
     simp (lt-leb _ _ h)
 
 word-requires-2 : tie.Need-word-requires-2
@@ -29,8 +48,8 @@ wide-requires-2 c κs = search needs
 returns-2 : tie.Need-returns-2
 unfolding figure provided
 returns-2 c =
-    let h : c .before .before .before .before .before .before .args .up ≤ c .before .before .before .before .before .before .args .k .«up_capacity» = omega (arith, c .before .before .before .if1 .left) in
-    let l : c .before .before .before .before .before .before .args .k .«down_capacity» < c .before .before .before .before .before .before .args .down = omega (arith, c .if2 .taken) in
+    let h : start-before-then2 c .args .up ≤ start-before-then2 c .args .k .«up_capacity» = omega (arith, else1-before-then2 c .if1 .left) in
+    let l : start-before-then2 c .args .k .«down_capacity» < start-before-then2 c .args .down = omega (arith, c .if2 .taken) in
     simp (le-leb _ _ h, lt-leb _ _ l)
 
 priced-requires : tie.Need-priced-requires
@@ -45,8 +64,8 @@ add-result c = search needs
 returns-3 : tie.Need-returns-3
 unfolding figure provided
 returns-3 c =
-    let h : c .before .before .before .before .before .before .before .before .args .up ≤ c .before .before .before .before .before .before .before .before .args .k .«up_capacity» = omega (arith, c .before .before .before .before .before .if1 .left) in
-    let l : c .before .before .before .before .before .before .before .before .args .down ≤ c .before .before .before .before .before .before .before .before .args .k .«down_capacity» = omega (arith, c .before .before .if2 .left) in
+    let h : start-before-priced2 c .args .up ≤ start-before-priced2 c .args .k .«up_capacity» = omega (arith, else1-before-priced2 c .if1 .left) in
+    let l : start-before-priced2 c .args .down ≤ start-before-priced2 c .args .k .«down_capacity» = omega (arith, else2-before-priced2 c .if2 .left) in
     simp (le-leb _ _ h, le-leb _ _ l) (omega (arith, c .priced2 .ensures .0, c .before .priced .ensures .0))
 
 pub link-charge-spec : {M : Type 1} → statement M

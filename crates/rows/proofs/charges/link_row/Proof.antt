@@ -15,6 +15,13 @@ Inv-loop link₀ sums k size x₀ link x = (x ≤ size) × (length link ≡ leng
 abbrev μ-loop : tie.MeasureT-loop
 μ-loop link₀ sums k size x₀ link x = size - x
 
+-- the nodes of the function that its needs reach back to
+abbrev at-loop-before-link-charge : tie.After-link-charge Inv-loop μ-loop → tie.At-loop Inv-loop μ-loop
+at-loop-before-link-charge c = c .before .before .before .before
+
+abbrev start-before-link-charge : tie.After-link-charge Inv-loop μ-loop → tie.Start Inv-loop μ-loop
+start-before-link-charge c = c .before .before .before .before .before .before .before
+
 loop-holds : tie.Need-loop-holds Inv-loop μ-loop
 loop-holds c = (search needs, search needs, λ d l. absurd (omega arith))
 
@@ -56,8 +63,8 @@ loop-less c = search needs
 
 loop-again : tie.Need-loop-again Inv-loop μ-loop
 loop-again c =
-    let a = c .before .before .before .before .before .before .before .args in
-    let l = c .before .before .before .before .loop in
+    let a = start-before-link-charge c .args in
+    let l = at-loop-before-link-charge c .loop in
     (omega arith, simp length-set (l .inv .1), next-written (l .link) (l .x) (c .link-charge .result) (λ d. link-figure (a .k) (run-out (a .sums .now) d) (run-in (a .sums .now) d)) (omega arith) (c .link-charge .ensures) (l .inv .2))
 
 same-length : tie.Need-same-length Inv-loop μ-loop

@@ -8,6 +8,37 @@ use Rattle.rows.proofs.Joinable.{joins-child}
 use Rattle.rows.proofs.tables.join_child.Statement.{statement}
 use Rattle.rows.proofs.tables.join_child.Tie as tie
 
+-- the nodes of the function that its needs reach back to
+abbrev start-before-copy-row-arg2 : tie.After-copy-row-arg2 → tie.Start
+start-before-copy-row-arg2 c = c .before .before .before .before .before .before .before .before
+
+abbrev copy-row-before-join-arg4 : tie.After-join-arg4 → tie.After-copy-row
+copy-row-before-join-arg4 c = c .before .before .before .before .before .before .before .before .before .before
+
+abbrev link-row-before-join-arg4 : tie.After-join-arg4 → tie.After-link-row
+link-row-before-join-arg4 c = c .before .before .before .before .before .before
+
+abbrev start-before-join-arg4 : tie.After-join-arg4 → tie.Start
+start-before-join-arg4 c = c .before .before .before .before .before .before .before .before .before .before .before .before .before .before .before .before .before .before .before
+
+abbrev copy-row-before-link-row-arg : tie.After-link-row-arg → tie.After-copy-row
+copy-row-before-link-row-arg c = c .before .before .before
+
+abbrev start-before-link-row-arg : tie.After-link-row-arg → tie.Start
+start-before-link-row-arg c = c .before .before .before .before .before .before .before .before .before .before .before .before
+
+abbrev copy-row-before-slice-known8 : tie.After-slice-known8 → tie.After-copy-row
+copy-row-before-slice-known8 c = c .before .before .before .before .before .before .before .before .before .before .before .before .before .before .before
+
+abbrev join-before-slice-known8 : tie.After-slice-known8 → tie.After-join
+join-before-slice-known8 c = c .before .before .before .before
+
+abbrev link-row-before-slice-known8 : tie.After-slice-known8 → tie.After-link-row
+link-row-before-slice-known8 c = c .before .before .before .before .before .before .before .before .before .before .before
+
+abbrev start-before-slice-known8 : tie.After-slice-known8 → tie.Start
+start-before-slice-known8 c = c .before .before .before .before .before .before .before .before .before .before .before .before .before .before .before .before .before .before .before .before .before .before .before .before
+
 mul-at : tie.Need-mul-at
 mul-at c = search needs
 
@@ -34,14 +65,14 @@ part-copy-row-end c = search needs
 
 copy-row-requires : tie.Need-copy-row-requires
 copy-row-requires c κs =
-    let a = c .before .before .before .before .before .before .before .before .args in
-    let J = c .before .before .before .before .before .before .before .before .pre .0 in
-    omega (arith, row-length (a .size) (a .c) (a .costs .now) (J .child), c .before .before .before .before .before .before .before .before .pre .1 .for-child)
+    let a = start-before-copy-row-arg2 c .args in
+    let J = start-before-copy-row-arg2 c .pre .0 in
+    omega (arith, row-length (a .size) (a .c) (a .costs .now) (J .child), start-before-copy-row-arg2 c .pre .1 .for-child)
 
 link-row-requires : tie.Need-link-row-requires
 link-row-requires c κs =
-    let P = c .before .before .before .before .before .before .before .before .before .before .before .before .pre in
-    let k = c .before .before .before .copy-row .kept .0 in
+    let P = start-before-link-row-arg c .pre in
+    let k = copy-row-before-link-row-arg c .copy-row .kept .0 in
     (P .1 .for-link, P .0 .sets, P .1 .for-sums)
 
 mul-join : tie.Need-mul-join
@@ -70,12 +101,12 @@ part-join-end-2 c = search needs
 
 join-requires : tie.Need-join-requires
 join-requires c κs =
-    let a = c .before .before .before .before .before .before .before .before .before .before .before .before .before .before .before .before .before .before .before .args in
-    let J = c .before .before .before .before .before .before .before .before .before .before .before .before .before .before .before .before .before .before .before .pre .0 in
-    let S = c .before .before .before .before .before .before .before .before .before .before .before .before .before .before .before .before .before .before .before .pre .1 in
+    let a = start-before-join-arg4 c .args in
+    let J = start-before-join-arg4 c .pre .0 in
+    let S = start-before-join-arg4 c .pre .1 in
     let e = row-length (a .size) (a .p) (a .costs .now) (J .row) in
-    let child = c .before .before .before .before .before .before .before .before .before .before .copy-row .kept .0 in
-    let link = c .before .before .before .before .before .before .link-row .kept .0 in
+    let child = copy-row-before-join-arg4 c .copy-row .kept .0 in
+    let link = link-row-before-join-arg4 c .link-row .kept .0 in
     ((omega (arith, e, J .sets), row-length (a .size) (a .c) (a .choices .now) (J .choices) ∙ sym e), (omega (arith, e, S .for-child, child), omega (arith, e, S .for-link, link)))
 
 same-length : tie.Need-same-length
@@ -91,7 +122,7 @@ same-length-4 : tie.Need-same-length-4
 same-length-4 c = search needs
 
 returns : tie.Need-returns
-returns c = joins-child (c .before .before .before .before .before .before .before .before .before .before .before .before .before .before .before .before .before .before .before .before .before .before .before .before .args .k) (c .before .before .before .before .before .before .before .before .before .before .before .before .before .before .before .before .before .before .before .before .before .before .before .before .args .sums .now) (c .before .before .before .before .before .before .before .before .before .before .before .before .before .before .before .before .before .before .before .before .before .before .before .before .pre .0) (c .before .before .before .before .before .before .before .before .before .before .before .before .before .before .before .copy-row .last .0) (c .before .before .before .before .before .before .before .before .before .before .before .link-row .last .0) (c .before .before .before .before .before .before .before .before .before .before .before .before .before .before .before .copy-row .ensures) (c .before .before .before .before .before .before .before .before .before .before .before .link-row .ensures) (c .before .before .before .before .join .last .0) (c .before .before .before .before .join .last .1 .0) (c .before .before .before .before .join .result) (c .before .before .before .before .join .kept .0) (c .before .before .before .before .join .kept .1 .0) (c .before .before .before .before .join .ensures)
+returns c = joins-child (start-before-slice-known8 c .args .k) (start-before-slice-known8 c .args .sums .now) (start-before-slice-known8 c .pre .0) (copy-row-before-slice-known8 c .copy-row .last .0) (link-row-before-slice-known8 c .link-row .last .0) (copy-row-before-slice-known8 c .copy-row .ensures) (link-row-before-slice-known8 c .link-row .ensures) (join-before-slice-known8 c .join .last .0) (join-before-slice-known8 c .join .last .1 .0) (join-before-slice-known8 c .join .result) (join-before-slice-known8 c .join .kept .0) (join-before-slice-known8 c .join .kept .1 .0) (join-before-slice-known8 c .join .ensures)
 
 pub join-child-spec : {M : Type 1} → statement M
 join-child-spec =
