@@ -17,7 +17,6 @@ use Rattle.sheet.specs.declared.Reading.{Reading}
 use Rattle.sheet.specs.declared.Reading.the-variants as readings
 use Rattle.embedding.specs.Plan.{place, in-range, cabinets-keep, links-keep, plan-cost}
 use Rattle.checker.specs.Check.{rules, answered, plan-checked, checked-after, checked}
-use Rattle.checker.specs.Inner.Records.{Reads}
 use Rattle.checker.specs.Inner.Walk.{walked}
 use Rattle.checker.specs.declared.Checked.the-variants.{Accepted, Refused}
 
@@ -39,28 +38,33 @@ module _ (bytes plan : List ℕ) where
   unfolding checked checked-after
   handed-on f e = sym (ap (λ (r : Reading). checked-after r (instance bytes) plan) e)
 
-  module _ (h : Sheet) (reads : Reads bytes h) where
+  module _ (h : Sheet) (reads : reading bytes ≡ readings.Accepted h) where
     -- a sheet that the reader accepts
     pub on-plan : checked bytes plan ≡ plan-checked (instance bytes) plan
     unfolding checked checked-after
     on-plan = ap (λ (r : Reading). checked-after r (instance bytes) plan) reads
 
-    pub wrong-length : (length plan ≡ instance bytes .r → ⊥) → Refused (PlanWriter 13) ≡ checked bytes plan
-    unfolding plan-checked rules first-applying answered refusal
-    wrong-length e = sym (on-plan ∙ simp (ne-eqb (length plan) (instance bytes .r) e))
+    -- the same by the instance that the records tell of
+    module _ (I : Instance) (same : I ≡ instance bytes) where
+      on-told : checked bytes plan ≡ plan-checked I plan
+      on-told = on-plan ∙ sym (ap (λ (I : Instance). plan-checked I plan) same)
 
-    module _ (places : length plan ≡ instance bytes .r) where
-      pub out-of-range : in-range (instance bytes) (place plan) ≡ false → Refused (PlanWriter 14) ≡ checked bytes plan
+      pub wrong-length : (length plan ≡ I .r → ⊥) → Refused (PlanWriter 13) ≡ checked bytes plan
       unfolding plan-checked rules first-applying answered refusal
-      out-of-range e = sym (on-plan ∙ simp (eq-eqb (length plan) (instance bytes .r) places, e))
+      wrong-length e = sym (on-told ∙ simp (ne-eqb (length plan) (I .r) e))
 
-      module _ (range : in-range (instance bytes) (place plan) ≡ true) where
-        pub cabinet-overfull : cabinets-keep (instance bytes) (place plan) ≡ false → Refused (PlanWriter 15) ≡ checked bytes plan
+      module _ (places : length plan ≡ I .r) where
+        pub out-of-range : in-range I (place plan) ≡ false → Refused (PlanWriter 14) ≡ checked bytes plan
         unfolding plan-checked rules first-applying answered refusal
-        cabinet-overfull e = sym (on-plan ∙ simp (eq-eqb (length plan) (instance bytes .r) places, range, e))
+        out-of-range e = sym (on-told ∙ simp (eq-eqb (length plan) (I .r) places, e))
 
-        -- the walk decides what is left
-        pub by-walk : cabinets-keep (instance bytes) (place plan) ≡ true → walked (instance bytes) (place plan) ≡ checked bytes plan
-        unfolding plan-checked rules first-applying walked
-        by-walk e =
-            sym (on-plan ∙ simp (eq-eqb (length plan) (instance bytes .r) places, range, e) (last (links-keep (instance bytes) (place plan)) (plan-cost (instance bytes) (place plan))))
+        module _ (range : in-range I (place plan) ≡ true) where
+          pub cabinet-overfull : cabinets-keep I (place plan) ≡ false → Refused (PlanWriter 15) ≡ checked bytes plan
+          unfolding plan-checked rules first-applying answered refusal
+          cabinet-overfull e = sym (on-told ∙ simp (eq-eqb (length plan) (I .r) places, range, e))
+
+          -- the walk decides what is left
+          pub by-walk : cabinets-keep I (place plan) ≡ true → walked I (place plan) ≡ checked bytes plan
+          unfolding plan-checked rules first-applying walked
+          by-walk e =
+              sym (on-told ∙ simp (eq-eqb (length plan) (I .r) places, range, e) (last (links-keep I (place plan)) (plan-cost I (place plan))))

@@ -4,53 +4,37 @@ use native.Mathlib.Nat.{mul-le-mul}
 use native.Mathlib.Omega.{arith}
 use mathlib.Core.Path.{_≡_, refl, sym, ap, ap₂, _∙_}
 use mathlib.Core.Logic.{_⊎_, inl, inr, ⊎-elim}
-use mathlib.Core.Bool.{Bool, true, false, _&&_, _||_, not}
+use mathlib.Core.Bool.{Bool, true, false, _&&_, _||_}
 use mathlib.Core.List.{List}
 use lib.Dec.{ltb, leb}
-use lib.ListN.{length, getD}
 use borrow.Author.Tests.{ltb-true, ltb-false, lt-ltb, le-leb, lt-leb}
 use Rattle.finite.specs.Below.{_⇒_, only, sum-below, all-below}
 use Rattle.finite.proofs.Booleans.{both, either, neither-l, neither-r, is-false, both-l, both-r, clash, implies}
 use Rattle.finite.proofs.Sums.{sum-start, sum-next, sum-part}
 use Rattle.finite.proofs.Tests.{all-next, all-end, all-stop}
 use Rattle.subsets.specs.Tree.{under}
-use Rattle.sheet.specs.Limits.{max-cabinets}
+use Rattle.sheet.specs.Limits.{max-amount}
 use Rattle.sheet.specs.Instance.{Instance, WellFormed}
 use Rattle.sheet.specs.Refusals.{refusal}
 use Rattle.sheet.specs.declared.Refusal.the-variants.{PlanWriter}
+use Rattle.sheet.specs.Inner.Fields.{cabinet-of}
 use Rattle.sheet.specs.declared.Cabinet.{Cabinet}
-use Rattle.sheet.specs.declared.Stream.{Stream}
-use Rattle.embedding.specs.Road.{up, down}
-use Rattle.embedding.specs.Plan.{place, link-keeps, in-range, links-keep, cabinets-cost, links-cost, plan-cost}
-use Rattle.embedding.specs.Inner.Charge.{leaving, entering}
+use Rattle.embedding.specs.Plan.{link-keeps, in-range, links-keep, cabinets-cost, links-cost, plan-cost}
 use Rattle.embedding.proofs.Reckoning.{toll-by-price}
 use Rattle.embedding.proofs.Mappings.{range-test}
 use Rattle.embedding.proofs.Loads.{link-cost, link-keeps-by-flows, links-cost-by-links}
 use Rattle.embedding.proofs.Bound.{leaving-le, entering-le}
 use Rattle.embedding.proofs.Theorems.{cost-bound}
-use Rattle.checker.specs.Inner.Records.{cabinet-of, stream-of, Marked}
+use Rattle.checker.specs.Inner.Records.{Marked}
 use Rattle.checker.specs.Inner.Walk.{walked}
 use Rattle.checker.specs.declared.Checked.the-variants.{Accepted, Refused}
+use Rattle.checker.proofs.Flows.{up-share, down-share, up-load, down-load, up-all, down-all}
 
 only-true : (n : ℕ) → only true n ≡ n
 unfolding only
 only-true n = refl
 
 module _ (I : Instance) (π : ℕ → ℕ) where
-  -- what stream j puts on the link above c upwards, and downwards
-  abbrev pub up-share : ℕ → ℕ → ℕ
-  up-share c j = only (under (I .parent) c (π (I .from j)) && not (under (I .parent) c (π (I .to j)))) (I .load j)
-
-  abbrev pub down-share : ℕ → ℕ → ℕ
-  down-share c j = only (under (I .parent) c (π (I .to j)) && not (under (I .parent) c (π (I .from j)))) (I .load j)
-
-  -- what the first n streams put on it
-  abbrev pub up-load : ℕ → ℕ → ℕ
-  up-load c n = sum-below n (up-share c)
-
-  abbrev pub down-load : ℕ → ℕ → ℕ
-  down-load c n = sum-below n (down-share c)
-
   -- between two links: the links below c are not overfull, and this is the cost so far
   pub record Passed (c cost : ℕ) : Type 0 where
     pub above : 0 < c
@@ -65,8 +49,8 @@ module _ (I : Instance) (π : ℕ → ℕ) where
     pub link-is : link ≡ cabinet-of I c
     pub marked : Marked I c marks
     pub within : j ≤ I .q
-    pub up-is : up ≡ up-load c j
-    pub down-is : down ≡ down-load c j
+    pub up-is : up ≡ up-load I π c j
+    pub down-is : down ≡ down-load I π c j
     pub up-keeps : up ≤ I .up-capacity c
     pub down-keeps : down ≤ I .down-capacity c
 
@@ -85,73 +69,53 @@ module _ (I : Instance) (π : ℕ → ℕ) where
           link-is = l;
           marked = m;
           within = omega arith;
-          up-is = sum-start (up-share c);
-          down-is = sum-start (down-share c);
+          up-is = sum-start (up-share I π c);
+          down-is = sum-start (down-share I π c);
           up-keeps = omega arith;
           down-keeps = omega arith;
         }
 
-    -- ---- one more stream
-
-    -- the ends of stream j stand on cabinets of the road
-    pub ends : (j : ℕ) → j < I .q → (π (I .from j) < I .s) × (π (I .to j) < I .s)
-    ends j h = (range-test I π .0 range (I .from j) (W .from-service j h), range-test I π .0 range (I .to j) (W .to-service j h))
-
-    module _ {c cost : ℕ} {link : Cabinet} {marks : List Bool} {up down j : ℕ} (s : Counting c cost link marks up down j) (h : j < I .q) where
-      pub up-next : (t : Stream) (n : ℕ) → t ≡ stream-of I j → n ≡ only (getD marks (π (t .from)) false && not (getD marks (π (t .to)) false)) (t .demand) → up + n ≡ up-load c (j + 1)
-      up-next t n g e =
-          ap₂ (λ (x y : ℕ). x + y) (s .up-is)
-          (e ∙ ap (λ (t : Stream). only (getD marks (π (t .from)) false && not (getD marks (π (t .to)) false)) (t .demand)) g
-          ∙ ap₂ (λ (a b : Bool). only (a && not b) (I .load j)) (s .marked .mark (π (I .from j)) (ends j h .0)) (s .marked .mark (π (I .to j)) (ends j h .1)))
-          ∙ sym (sum-next j (up-share c))
-
-      pub down-next : (t : Stream) (n : ℕ) → t ≡ stream-of I j → n ≡ only (getD marks (π (t .to)) false && not (getD marks (π (t .from)) false)) (t .demand) → down + n ≡ down-load c (j + 1)
-      down-next t n g e =
-          ap₂ (λ (x y : ℕ). x + y) (s .down-is)
-          (e ∙ ap (λ (t : Stream). only (getD marks (π (t .to)) false && not (getD marks (π (t .from)) false)) (t .demand)) g
-          ∙ ap₂ (λ (a b : Bool). only (a && not b) (I .load j)) (s .marked .mark (π (I .to j)) (ends j h .1)) (s .marked .mark (π (I .from j)) (ends j h .0)))
-          ∙ sym (sum-next j (down-share c))
-
     -- what some of the streams put on a link is far below 2^64
-    pub up-le : (c n : ℕ) → n ≤ I .q → up-load c n ≤ 1000000
-    unfolding leaving
-    up-le c n h = omega (arith, leaving-le I W 10000 (I .load) (W .loads) (λ i. under (I .parent) c (π i)), sum-part n (I .q) (up-share c) h)
+    pub up-le : (c n : ℕ) → n ≤ I .q → up-load I π c n ≤ 1000000
+    up-le c n h = omega (arith, up-all I π W c, leaving-le I W max-amount (I .load) (W .loads) (λ i. under (I .parent) c (π i)), sum-part n (I .q) (up-share I π c) h)
 
-    pub down-le : (c n : ℕ) → n ≤ I .q → down-load c n ≤ 1000000
-    unfolding entering
-    down-le c n h = omega (arith, entering-le I W 10000 (I .load) (W .loads) (λ i. under (I .parent) c (π i)), sum-part n (I .q) (down-share c) h)
+    pub down-le : (c n : ℕ) → n ≤ I .q → down-load I π c n ≤ 1000000
+    down-le c n h = omega (arith, down-all I π W c, entering-le I W max-amount (I .load) (W .loads) (λ i. under (I .parent) c (π i)), sum-part n (I .q) (down-share I π c) h)
 
     -- ---- the test of a link, and its cost
 
-    link-test : (c : ℕ) → 0 < c → link-keeps I π c ≡ leb (up-load c (I .q)) (I .up-capacity c) && leb (down-load c (I .q)) (I .down-capacity c)
-    unfolding leaving entering
-    link-test = link-keeps-by-flows I W π (range-test I π .0 range)
+    link-test : (c : ℕ) → 0 < c → link-keeps I π c ≡ leb (up-load I π c (I .q)) (I .up-capacity c) && leb (down-load I π c (I .q)) (I .down-capacity c)
+    link-test c z =
+        link-keeps-by-flows I W π (range-test I π .0 range) c z
+        ∙ ap₂ (λ (m n : ℕ). leb m (I .up-capacity c) && leb n (I .down-capacity c)) (sym (up-all I π W c)) (sym (down-all I π W c))
 
-    link-cost-is : (c : ℕ) → link-cost I π c ≡ up-load c (I .q) * I .up-price c + down-load c (I .q) * I .down-price c
-    unfolding leaving entering
-    link-cost-is c = toll-by-price I c (up-load c (I .q)) (down-load c (I .q))
+    link-cost-is : (c : ℕ) → link-cost I π c ≡ up-load I π c (I .q) * I .up-price c + down-load I π c (I .q) * I .down-price c
+    link-cost-is c =
+        toll-by-price I c _ _
+        ∙ ap₂ (λ (m n : ℕ). m * I .up-price c + n * I .down-price c) (sym (up-all I π W c)) (sym (down-all I π W c))
 
     -- a link whose first n streams are too much
-    too-much : (c n : ℕ) → 0 < c → c < I .s → n ≤ I .q → (I .up-capacity c < up-load c n) ⊎ (I .down-capacity c < down-load c n) → links-keep I π ≡ false
+    too-much : (c n : ℕ) → 0 < c → c < I .s → n ≤ I .q → (I .up-capacity c < up-load I π c n) ⊎ (I .down-capacity c < down-load I π c n) → links-keep I π ≡ false
     unfolding links-keep _⇒_
     too-much c n z h k o =
         sym (all-stop (I .s) (λ d. ltb 0 d ⇒ link-keeps I π d) c h (ap₂ (λ (a b : Bool). a ⇒ b) (lt-ltb 0 c z) (link-test c z ∙ fails)))
       where
-        fails : leb (up-load c (I .q)) (I .up-capacity c) && leb (down-load c (I .q)) (I .down-capacity c) ≡ false
+        fails : leb (up-load I π c (I .q)) (I .up-capacity c) && leb (down-load I π c (I .q)) (I .down-capacity c) ≡ false
         fails = is-false _ (λ e. ⊎-elim
-            (λ l. clash (sym (both-l (leb (up-load c (I .q)) (I .up-capacity c)) (leb (down-load c (I .q)) (I .down-capacity c)) e) ∙ lt-leb (up-load c (I .q)) (I .up-capacity c) (omega (arith, l, sum-part n (I .q) (up-share c) k))))
-            (λ l. clash (sym (both-r (leb (up-load c (I .q)) (I .up-capacity c)) (leb (down-load c (I .q)) (I .down-capacity c)) e) ∙ lt-leb (down-load c (I .q)) (I .down-capacity c) (omega (arith, l, sum-part n (I .q) (down-share c) k))))
+            (λ l. clash (sym (both-l (leb (up-load I π c (I .q)) (I .up-capacity c)) (leb (down-load I π c (I .q)) (I .down-capacity c)) e) ∙ lt-leb (up-load I π c (I .q)) (I .up-capacity c) (omega (arith, l, sum-part n (I .q) (up-share I π c) k))))
+            (λ l. clash (sym (both-r (leb (up-load I π c (I .q)) (I .up-capacity c)) (leb (down-load I π c (I .q)) (I .down-capacity c)) e) ∙ lt-leb (down-load I π c (I .q)) (I .down-capacity c) (omega (arith, l, sum-part n (I .q) (down-share I π c) k))))
             o)
 
     -- a link whose streams all fit
-    fits-all : (c : ℕ) → 0 < c → up-load c (I .q) ≤ I .up-capacity c → down-load c (I .q) ≤ I .down-capacity c → ltb 0 c ⇒ link-keeps I π c ≡ true
+    fits-all : (c : ℕ) → 0 < c → up-load I π c (I .q) ≤ I .up-capacity c → down-load I π c (I .q) ≤ I .down-capacity c → ltb 0 c ⇒ link-keeps I π c ≡ true
     fits-all c z k l = implies (ltb 0 c) (link-keeps I π c) (λ e. link-test c z ∙ both _ _ (le-leb _ _ k) (le-leb _ _ l))
 
     module _ {c cost : ℕ} {link : Cabinet} {marks : List Bool} {up down j : ℕ} (s : Counting c cost link marks up down j) where
       -- the test after stream j: a direction is overfull, and the walk is left
-      pub left : (m n : ℕ) → j < I .q → m ≡ up-load c (j + 1) → n ≡ down-load c (j + 1)
-          → ltb (link .«up_capacity») m || ltb (link .«down_capacity») n ≡ true → links-keep I π ≡ false
-      left m n h e f o =
+      pub left : (m n : ℕ) (t : Bool) → j < I .q → m ≡ up-load I π c (j + 1) → n ≡ down-load I π c (j + 1)
+          → t ≡ ltb (link .«up_capacity») m || ltb (link .«down_capacity») n → t ≡ true → links-keep I π ≡ false
+      left m n t h e f p q =
+          let o = sym p ∙ q in
           too-much c (j + 1) (s .passed .above) (s .more) (omega arith)
           (⊎-elim
           (λ t. inl (omega (arith, ltb-true (link .«up_capacity») m t, ap (λ (k : Cabinet). k .«up_capacity») (s .link-is))))
@@ -159,9 +123,10 @@ module _ (I : Instance) (π : ℕ → ℕ) where
           (either (ltb (link .«up_capacity») m) (ltb (link .«down_capacity») n) o))
 
       -- or none is, and the count goes on
-      pub again : (m n : ℕ) → j < I .q → m ≡ up-load c (j + 1) → n ≡ down-load c (j + 1)
-          → ltb (link .«up_capacity») m || ltb (link .«down_capacity») n ≡ false → Counting c cost link marks m n (j + 1)
-      again m n h e f o =
+      pub again : (m n : ℕ) (t : Bool) → j < I .q → m ≡ up-load I π c (j + 1) → n ≡ down-load I π c (j + 1)
+          → t ≡ ltb (link .«up_capacity») m || ltb (link .«down_capacity») n → t ≡ false → Counting c cost link marks m n (j + 1)
+      again m n t h e f p q =
+          let o = sym p ∙ q in
           record {
             passed = s .passed;
             more = s .more;
@@ -188,22 +153,22 @@ module _ (I : Instance) (π : ℕ → ℕ) where
       pub up-toll : up * link .«up_price» ≤ 100000000
       up-toll = omega (
         arith,
-        mul-le-mul (let k : up ≤ 10000 = omega (arith, s .up-keeps, W .up-capacities c) in k) (W .up-prices c),
+        mul-le-mul (let k : up ≤ max-amount = omega (arith, s .up-keeps, W .up-capacities c) in k) (W .up-prices c),
         ap (λ (k : Cabinet). up * k .«up_price») (s .link-is),
       )
 
       pub down-toll : down * link .«down_price» ≤ 100000000
       down-toll = omega (
         arith,
-        mul-le-mul (let k : down ≤ 10000 = omega (arith, s .down-keeps, W .down-capacities c) in k) (W .down-prices c),
+        mul-le-mul (let k : down ≤ max-amount = omega (arith, s .down-keeps, W .down-capacities c) in k) (W .down-prices c),
         ap (λ (k : Cabinet). down * k .«down_price») (s .link-is),
       )
 
       pub next : I .q ≤ j → Passed (c + 1) (cost + (up * link .«up_price» + down * link .«down_price»))
       next h =
           let e : j ≡ I .q = omega (arith, s .within) in
-          let u : up ≡ up-load c (I .q) = s .up-is ∙ ap (up-load c) e in
-          let d : down ≡ down-load c (I .q) = s .down-is ∙ ap (down-load c) e in
+          let u : up ≡ up-load I π c (I .q) = s .up-is ∙ ap (up-load I π c) e in
+          let d : down ≡ down-load I π c (I .q) = s .down-is ∙ ap (down-load I π c) e in
           record {
             above = omega arith;
             within = omega (arith, s .more);
@@ -246,15 +211,3 @@ module _ (I : Instance) (π : ℕ → ℕ) where
     pub refused : links-keep I π ≡ false → Refused (PlanWriter 16) ≡ walked I π
     unfolding walked refusal
     refused e = simp e
-
--- the services that a stream joins have places in the plan, and these are cabinets
-pub legs : (I : Instance) (plan : List ℕ) → WellFormed I → length plan ≡ I .r → in-range I (place plan) ≡ true → (j : ℕ) → j < I .q → (t : Stream) → t ≡ stream-of I j
-    → (t .from < length plan) × (t .to < length plan) × (place plan (t .from) < max-cabinets) × (place plan (t .to) < max-cabinets)
-legs I plan W l range j h t e =
-    let f : t .from < I .r = omega (arith, W .from-service j h, ap (λ (t : Stream). t .from) e) in
-    let g : t .to < I .r = omega (arith, W .to-service j h, ap (λ (t : Stream). t .to) e) in (
-      omega arith,
-      omega arith,
-      omega (arith, range-test I (place plan) .0 range (t .from) f, W .cabinets),
-      omega (arith, range-test I (place plan) .0 range (t .to) g, W .cabinets),
-    )

@@ -1,4 +1,5 @@
--- What the check answers. Inner need not be read.
+-- What the check answers, and the load of a link. Inner need not be read.
 pub mod Check
 pub mod Answers
+pub mod Loads
 pub mod Inner

@@ -2,25 +2,24 @@
 ghost use mathlib.Core.Path.{_≡_};
 ghost use lib.Dec.{eqb, ltb};
 ghost use lib.ListN.{length};
-ghost use Rattle.finite.specs.Below.{only, all-below};
-ghost use Rattle.sheet.specs.Instance.{instance};
+ghost use Rattle.finite.specs.Below.{all-below};
+ghost use Rattle.records.specs.Told.{told};
 ghost use Rattle.embedding.specs.Plan.{place, demand-of, cabinets-keep, cabinets-cost};
 ghost use Rattle.checker.specs.Inner.Records.{Placed};
-use crate::records::cabinet;
-use crate::records::demand;
-use sheet::Sheet;
+use crate::numbers::index;
+use crate::numbers::wide;
+use records::Records;
+use records::field;
+use subsets::only_if;
 
-pub(crate) fn wide(place: u16) -> usize
-    ensures { λ c. ⌜ c ≡ place ⌝ }
+// The cabinet that a plan gives service i; 0 where it has no place for it.
+pub(crate) fn place_of(plan: &[u16], i: usize) -> usize
+    ensures { λ c. ⌜ c ≡ place (now (plan .entry)) i ⌝ }
 {
-    place as usize
-}
-
-// n where the test passes, else 0.
-pub(crate) fn counted(test: bool, n: u64) -> u64
-    ensures { λ m. ⌜ m ≡ only test n ⌝ }
-{
-    if test { n } else { 0 }
+    if plan.len() <= i {
+        return 0;
+    }
+    index(plan[i])
 }
 
 // Every cabinet number of the plan is below the number of cabinets.
@@ -29,7 +28,7 @@ pub(crate) fn is_in_range(plan: &[u16], cabinets: usize) -> bool
 {
     let mut i = 0;
     while i < plan.len() {
-        if cabinets <= wide(plan[i]) {
+        if cabinets <= place_of(plan, i) {
             return false;
         }
         i += 1;
@@ -38,30 +37,33 @@ pub(crate) fn is_in_range(plan: &[u16], cabinets: usize) -> bool
 }
 
 // The demand that the plan puts on cabinet c.
-fn placed_demand(sheet: Sheet, bytes: &[u8], plan: &[u16], c: usize) -> u64
-    requires { ⌜ Placed (now bytes) sheet (now plan) ⌝ }
-    ensures { λ n. ⌜ n ≡ demand-of (instance (now (bytes .entry))) (λ i. eqb (place (now (plan .entry)) i) c) ⌝ }
+fn placed_demand(records: Records, plan: &[u16], c: usize) -> u64
+    requires { ⌜ Placed records (now plan) ⌝ }
+    ensures { λ n. ⌜ n ≡ demand-of (told records) (λ i. eqb (place (now (plan .entry)) i) c) ⌝ }
 {
-    let services = sheet.services();
+    let demand = records.demand;
     let mut sum = 0;
     let mut i = 0;
-    while i < services {
-        sum += counted(wide(plan[i]) == c, demand(sheet, bytes, i));
+    while i < records.services {
+        sum += only_if(
+            place_of(plan, i) == c,
+            wide(field(&demand, records.services, i)),
+        );
         i += 1;
     }
     sum
 }
 
 // No cabinet is overfull.
-pub(crate) fn are_cabinets_kept(sheet: Sheet, bytes: &[u8], plan: &[u16]) -> bool
-    requires { ⌜ Placed (now bytes) sheet (now plan) ⌝ }
-    ensures { λ b. ⌜ b ≡ cabinets-keep (instance (now (bytes .entry))) (place (now (plan .entry))) ⌝ }
+pub(crate) fn are_cabinets_kept(records: Records, plan: &[u16]) -> bool
+    requires { ⌜ Placed records (now plan) ⌝ }
+    ensures { λ b. ⌜ b ≡ cabinets-keep (told records) (place (now (plan .entry))) ⌝ }
 {
-    let cabinets = sheet.cabinets();
+    let cabinets = records.cabinets;
     let mut c = 0;
     while c < cabinets {
-        let k = cabinet(sheet, bytes, c);
-        if k.capacity < placed_demand(sheet, bytes, plan, c) {
+        let k = records.cabinet(c);
+        if k.capacity < placed_demand(records, plan, c) {
             return false;
         }
         c += 1;
@@ -70,16 +72,17 @@ pub(crate) fn are_cabinets_kept(sheet: Sheet, bytes: &[u8], plan: &[u16]) -> boo
 }
 
 // What the cabinets charge for the services: each one's demand times the price of its cabinet.
-pub(crate) fn cabinets_cost(sheet: Sheet, bytes: &[u8], plan: &[u16]) -> u64
-    requires { ⌜ Placed (now bytes) sheet (now plan) ⌝ }
-    ensures { λ n. ⌜ n ≡ cabinets-cost (instance (now (bytes .entry))) (place (now (plan .entry))) ⌝ }
+pub(crate) fn cabinets_cost(records: Records, plan: &[u16]) -> u64
+    requires { ⌜ Placed records (now plan) ⌝ }
+    ensures { λ n. ⌜ n ≡ cabinets-cost (told records) (place (now (plan .entry))) ⌝ }
 {
-    let services = sheet.services();
+    let services = records.services;
     let mut cost = 0;
     let mut i = 0;
     while i < services {
-        let k = cabinet(sheet, bytes, wide(plan[i]));
-        cost += demand(sheet, bytes, i) * k.price;
+        let service = records.service(i);
+        let k = records.cabinet(place_of(plan, i));
+        cost += service.demand * k.price;
         i += 1;
     }
     cost

@@ -1,10 +1,11 @@
-// The check of a plan against a sheet: any bytes and any plan get the plan's cost, or one refusal.
+// The check of a plan against a sheet: any bytes and any plan get the plan's cost, or one refusal. And the load of one link.
 ghost use mathlib.Core.Path.{_≡_};
 ghost use Rattle.checker.specs.Check.{checked};
 
 mod cabinets; // cabinets.rt: what the plan puts on cabinets, and what they charge
-mod links; // links.rt: what the plan's streams put on links, and what they charge
-mod records; // records.rt: the records of an accepted sheet
+mod links; // links.rt: the walk over the links, and what they charge
+pub mod loads; // loads.rt: what the plan's streams put on one link
+mod numbers; // numbers.rt: numbers of 16 bits, widened
 
 use cabinets::are_cabinets_kept;
 use cabinets::cabinets_cost;
@@ -23,7 +24,8 @@ pub enum Checked {
 pub fn check(bytes: &[u8], plan: &[u16]) -> Checked
     ensures { λ r. ⌜ r ≡ checked (now (bytes .entry)) (now (plan .entry)) ⌝ }
 {
-    let answer = sheet::read(bytes);
+    let loaded = records::load(bytes);
+    let answer = loaded.answer;
     let Reading::Accepted(sheet) = answer else {
         let Reading::Refused(refusal) = answer else {
             // Not reached: a reading is one of the two.
@@ -37,8 +39,9 @@ pub fn check(bytes: &[u8], plan: &[u16]) -> Checked
     if !is_in_range(plan, sheet.cabinets()) {
         return Checked::Refused(Refusal::PlanWriter(14));
     }
-    if !are_cabinets_kept(sheet, bytes, plan) {
+    let records = loaded.records;
+    if !are_cabinets_kept(records, plan) {
         return Checked::Refused(Refusal::PlanWriter(15));
     }
-    walk_links(sheet, bytes, plan, cabinets_cost(sheet, bytes, plan))
+    walk_links(records, plan, cabinets_cost(records, plan))
 }

@@ -60,8 +60,9 @@ pub fn load(bytes: &[u8]) -> Loaded
     }
 }
 
-// Field i of so many records; 0 where there is no such record.
-fn field(column: &[u16], count: usize, i: usize) -> u16
+// Field i of so many records; 0 where there is no such record. For a loop, which lends it the one array that it reads:
+// a method of `Records` is given a copy of them all.
+pub fn field(column: &[u16], count: usize, i: usize) -> u16
     ensures { λ r. ⌜ r ≡ only (ltb i count) (getD (now (column .entry)) i 0) ⌝ }
 {
     if count <= i {

@@ -12,7 +12,7 @@ use Rattle.finite.proofs.Booleans.{clash, both, both-l, both-r}
 use Rattle.sheet.specs.Limits.{max-services, max-cabinets}
 use Rattle.records.specs.declared.Records.{Records}
 use Rattle.rows.specs.Charges.{max-sets, all-sums}
-use Rattle.rows.specs.Rebuilds.{source, Rebuilds, RebuildRoom, Scratch, roomy, rebuildable, RebuildsRow}
+use Rattle.rows.specs.Rebuilds.{source, Rebuilds, RebuildRoom, Scratch, roomy, has-rows, rebuildable, RebuildsRow}
 
 -- 2^r is at most the number of all sets
 pub sets-le : (r : ℕ) → r ≤ max-services → 2 ^ r ≤ max-sets
@@ -38,8 +38,9 @@ module _ (k : Records) (p : ℕ) (sums child link t u : List ℕ) where
     pub room : roomy (length child) (length link) (length sums) ≡ true
 
   pub passed : rebuildable k p sums child link t u ≡ true → Passed (2 ^ k .services)
-  unfolding rebuildable
-  passed e =
+  unfolding has-rows
+  passed w =
+      let e = both-l (has-rows (k .services) (k .cabinets) p (length t) (length u)) _ w in
       let a = both-r (leb (k .services) max-services) _ e in
       let b = both-r (leb (k .cabinets) max-cabinets) _ a in
       let d = both-r (ltb p (k .cabinets)) _ b in
@@ -49,18 +50,19 @@ module _ (k : Records) (p : ℕ) (sums child link t u : List ℕ) where
         cabinets = leb-true _ _ (both-l (leb (k .cabinets) max-cabinets) _ a);
         cabinet = ltb-true _ _ (both-l (ltb p (k .cabinets)) _ b);
         costs = leb-true _ _ (both-l (leb (k .cabinets * 2 ^ k .services) (length t)) _ d);
-        choices = leb-true _ _ (both-l (leb (k .cabinets * 2 ^ k .services) (length u)) _ f);
-        room = both-r (leb (k .cabinets * 2 ^ k .services) (length u)) _ f;
+        choices = leb-true _ _ f;
+        room = both-r (has-rows (k .services) (k .cabinets) p (length t) (length u)) _ w;
       }
 
   pub passes : Passed (2 ^ k .services) → rebuildable k p sums child link t u ≡ true
-  unfolding rebuildable
+  unfolding has-rows
   passes P =
-      both (leb (k .services) max-services) _ (le-leb _ _ (P .services))
+      both (has-rows (k .services) (k .cabinets) p (length t) (length u)) _
+      (both (leb (k .services) max-services) _ (le-leb _ _ (P .services))
       (both (leb (k .cabinets) max-cabinets) _ (le-leb _ _ (P .cabinets))
       (both (ltb p (k .cabinets)) _ (lt-ltb _ _ (P .cabinet))
-      (both (leb (k .cabinets * 2 ^ k .services) (length t)) _ (le-leb _ _ (P .costs))
-      (both (leb (k .cabinets * 2 ^ k .services) (length u)) _ (le-leb _ _ (P .choices)) (P .room)))))
+      (both (leb (k .cabinets * 2 ^ k .services) (length t)) _ (le-leb _ _ (P .costs)) (le-leb _ _ (P .choices))))))
+      (P .room)
 
   -- room in the tables
   pub in-tables : {size : ℕ} → size ≡ 2 ^ k .services → Passed size → RebuildRoom k size p t u

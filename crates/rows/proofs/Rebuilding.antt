@@ -22,7 +22,7 @@ use Rattle.subsets.proofs.Rebuild.{Agree, row-agrees, choice-agrees, count-agre
 use Rattle.rows.specs.Charges.{own-figure, demanded}
 use Rattle.rows.specs.Rebuilds.{entry, RowSet}
 use Rattle.rows.specs.Rebuilds.{link-figures, source, Rebuilds, JoinsChild, JoinRoom, RebuildRoom}
-use Rattle.rows.specs.Nodes.{field, parent-of, record-of}
+use Rattle.rows.specs.Nodes.{field, node-of, parent-of, record-of}
 use Rattle.records.specs.declared.Records.{Records}
 use Rattle.rows.proofs.Joining.{counted-le}
 use Rattle.rows.proofs.Parted.{row-of, put-row, row-length, put-length, row-put, row-within}
@@ -31,6 +31,12 @@ use Rattle.rows.proofs.Parted.{row-of, put-row, row-length, put-length,
 pub field-at : (n : ℕ) (l : List ℕ) (i : ℕ) → i < n → field n l i ≡ getD l i 0
 unfolding only
 field-at n l i h = rw (lt-ltb i n h) refl
+
+-- a cabinet that is there
+pub node-there : (k : Records) (c : ℕ) → c < k .cabinets
+    → node-of (k .capacity) (k .price) (k .«up_capacity») (k .«up_price») (k .«down_capacity») (k .«down_price») c ≡ record-of k c
+unfolding record-of only
+node-there k c h = rw (lt-ltb c (k .cabinets) h) refl
 
 -- a row set twice
 row-again : (size p : ℕ) (f g : ℕ → ℕ) (t t₁ t₂ : List ℕ) → RowSet size p f t t₁ → RowSet size p g t₁ t₂ → RowSet size p g t t₂

@@ -15,6 +15,18 @@ field n l i = only (ltb i n) (getD l i 0)
 abbrev pub parent-of : Records → ℕ → ℕ
 parent-of k c = field (k .cabinets) (k .parent) c
 
+-- cabinet c, from the columns of records
+abbrev pub node-of : List ℕ → List ℕ → List ℕ → List ℕ → List ℕ → List ℕ → ℕ → Node
+node-of capacity price up-capacity up-price down-capacity down-price c =
+    record {
+      capacity = getD capacity c 0;
+      price = getD price c 0;
+      «up_capacity» = getD up-capacity c 0;
+      «up_price» = getD up-price c 0;
+      «down_capacity» = getD down-capacity c 0;
+      «down_price» = getD down-price c 0;
+    }
+
 -- the record of cabinet c but for its parent
 unfoldable pub record-of : Records → ℕ → Node
 record-of k c =

@@ -81,12 +81,15 @@ pub record Scratch (size : ℕ) (child link sums : List ℕ) : Type 0 where
 unfoldable pub roomy : ℕ → ℕ → ℕ → Bool
 roomy child link sums = leb max-sets child && (leb max-sets link && leb all-sums sums)
 
--- a row can be rebuilt: the counts are within the arrays, p is a cabinet, the tables have a row for each, and there is room on the way
-unfoldable pub rebuildable : Records → ℕ → List ℕ → List ℕ → List ℕ → List ℕ → List ℕ → Bool
+-- the counts are within the arrays, p is a cabinet, and tables of so many entries have a row for each cabinet
+unfoldable pub has-rows : ℕ → ℕ → ℕ → ℕ → ℕ → Bool
+has-rows r s p costs choices =
+    leb r max-services && (leb s max-cabinets && (ltb p s && (leb (s * 2 ^ r) costs && leb (s * 2 ^ r) choices)))
+
+-- a row can be rebuilt: the tables have it, and there is room on the way
+abbrev pub rebuildable : Records → ℕ → List ℕ → List ℕ → List ℕ → List ℕ → List ℕ → Bool
 rebuildable k p sums child link t u =
-    leb (k .services) max-services && (leb (k .cabinets) max-cabinets && (ltb p (k .cabinets)
-    && (leb (k .cabinets * 2 ^ k .services) (length t) && (leb (k .cabinets * 2 ^ k .services) (length u)
-    && roomy (length child) (length link) (length sums)))))
+    has-rows (k .services) (k .cabinets) p (length t) (length u) && roomy (length child) (length link) (length sums)
 
 -- The row of p is rebuilt where it can be, else nothing is done to the tables and nothing counted. What the room on the way holds then is free.
 pub record RebuildsRow (k : Records) (p : ℕ) (sums child link t t' u u' : List ℕ) (m : ℕ) : Type 0 where

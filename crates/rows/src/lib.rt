@@ -2,8 +2,8 @@
 ghost use mathlib.Core.Path.{_≡_};
 ghost use Prim.Native.Nat.{_^_, _≤_, _<_};
 ghost use Rattle.sheet.specs.Limits.{max-services, max-cabinets};
-ghost use Rattle.rows.specs.Nodes.{record-of};
-ghost use Rattle.rows.specs.Rebuilds.{roomy, RebuildsRow};
+ghost use Rattle.rows.specs.Nodes.{node-of};
+ghost use Rattle.rows.specs.Rebuilds.{roomy, has-rows, RebuildsRow};
 use records::Records;
 use sheet::Sheet;
 
@@ -11,7 +11,8 @@ mod charges; // charges.rt: what a cabinet and a link charge for every set of se
 mod joins; // joins.rt: a child's row joined into its parent's
 mod tables; // tables.rt: one row of both tables
 
-use tables::rebuild_row;
+use charges::fill_own;
+use tables::join_child;
 
 // How many sets of services there can be.
 pub const SETS: usize = 1 << Sheet::MAX_SERVICES;
@@ -36,18 +37,26 @@ fn index(x: u16) -> usize
     x as usize
 }
 
-// The record of cabinet c.
-fn node_at(records: Records, c: usize) -> Node
-    requires { ⌜ (c < records .cabinets) × (records .cabinets ≤ max-cabinets) ⌝ }
-    ensures { λ k. ⌜ k ≡ record-of records c ⌝ }
+// Cabinet c, from the columns of the records. (Lent one by one, since records given by value are copied.)
+fn node_at<'a>(
+    capacity: &'a [u16; Sheet::MAX_CABINETS],
+    price: &'a [u16; Sheet::MAX_CABINETS],
+    up_capacity: &'a [u16; Sheet::MAX_CABINETS],
+    up_price: &'a [u16; Sheet::MAX_CABINETS],
+    down_capacity: &'a [u16; Sheet::MAX_CABINETS],
+    down_price: &'a [u16; Sheet::MAX_CABINETS],
+    c: usize,
+) -> Node
+    requires { ⌜ c < max-cabinets ⌝ }
+    ensures { λ k. ⌜ k ≡ node-of (now (capacity .entry)) (now (price .entry)) (now («up_capacity» .entry)) (now («up_price» .entry)) (now («down_capacity» .entry)) (now («down_price» .entry)) c ⌝ }
 {
     Node {
-        capacity: records.capacity[c],
-        price: records.price[c],
-        up_capacity: records.up_capacity[c],
-        up_price: records.up_price[c],
-        down_capacity: records.down_capacity[c],
-        down_price: records.down_price[c],
+        capacity: capacity[c],
+        price: price[c],
+        up_capacity: up_capacity[c],
+        up_price: up_price[c],
+        down_capacity: down_capacity[c],
+        down_price: down_price[c],
     }
 }
 
@@ -72,6 +81,26 @@ fn is_roomy(child: usize, link: usize, sums: usize) -> bool
     SUMS <= sums
 }
 
+// Whether the counts are within the arrays, p is a cabinet, and tables of so many entries have a row for each cabinet.
+fn are_rows(services: usize, cabinets: usize, p: usize, costs: usize, choices: usize) -> bool
+    ensures { λ b. ⌜ b ≡ has-rows services cabinets p costs choices ⌝ }
+{
+    if Sheet::MAX_SERVICES < services {
+        return false;
+    }
+    if Sheet::MAX_CABINETS < cabinets {
+        return false;
+    }
+    if cabinets <= p {
+        return false;
+    }
+    let entries = cabinets * sets_of(services);
+    if costs < entries {
+        return false;
+    }
+    entries <= choices
+}
+
 // Rebuilds the row of p: its own charges, then its children joined, in rising order. Gives the splits counted. `child` and `link` are room on the way.
 pub fn rebuild(
     costs: &mut [u64],
@@ -84,26 +113,44 @@ pub fn rebuild(
 ) -> u64
     ensures { λ n. ⌜ RebuildsRow records p (now (sums .entry)) (now (child .entry)) (now (link .entry)) (now (costs .entry)) (now (costs .exit)) (now (choices .entry)) (now (choices .exit)) n ⌝ }
 {
-    if Sheet::MAX_SERVICES < records.services {
+    let n = records.cabinets;
+    if !are_rows(records.services, n, p, costs.len(), choices.len()) {
         return 0;
     }
-    if Sheet::MAX_CABINETS < records.cabinets {
-        return 0;
-    }
-    if records.cabinets <= p {
+    if !is_roomy(child.len(), link.len(), sums.len()) {
         return 0;
     }
     let size = sets_of(records.services);
-    let entries = records.cabinets * size;
-    if costs.len() < entries {
-        return 0;
+    let own = node_at(
+        &records.capacity,
+        &records.price,
+        &records.up_capacity,
+        &records.up_price,
+        &records.down_capacity,
+        &records.down_price,
+        p,
+    );
+    let at = p * size;
+    let end = at + size;
+    fill_own(&mut costs[at..end], sums, own);
+    let mut count: u64 = 0;
+    let mut c = p + 1;
+    while c < n {
+        let d = c;
+        c += 1;
+        if index(records.parent[d]) != p {
+            continue;
+        }
+        let k = node_at(
+            &records.capacity,
+            &records.price,
+            &records.up_capacity,
+            &records.up_price,
+            &records.down_capacity,
+            &records.down_price,
+            d,
+        );
+        count += join_child(costs, choices, child, link, k, sums, p, d, size);
     }
-    if choices.len() < entries {
-        return 0;
-    }
-    if is_roomy(child.len(), link.len(), sums.len()) {
-        rebuild_row(costs, choices, child, link, records, sums, p, size)
-    } else {
-        0
-    }
+    count
 }

@@ -2,14 +2,10 @@
 ghost use mathlib.Core.Path.{_≡_};
 ghost use Prim.Native.Nat.{ℕ, _≤_, _<_};
 ghost use lib.ListN.{length, getD};
-ghost use Rattle.rows.specs.Rebuilds.{JoinRoom, JoinsChild, RebuildRoom, Rebuilds, Scratch, source};
+ghost use Rattle.rows.specs.Rebuilds.{JoinRoom, JoinsChild, Scratch};
 use crate::Node;
-use crate::charges::fill_own;
 use crate::charges::link_row;
-use crate::index;
 use crate::joins::join;
-use crate::node_at;
-use records::Records;
 
 // Copies a row.
 fn copy_row(copy: &mut [u64], row: &[u64])
@@ -24,7 +20,7 @@ fn copy_row(copy: &mut [u64], row: &[u64])
 }
 
 // Joins the row of p's child c, whose record is k, into that of p. The child's row is copied first, since two rows of one table cannot be lent at once.
-fn join_child(
+pub(crate) fn join_child(
     costs: &mut [u64],
     choices: &mut [u16],
     child: &mut [u64],
@@ -51,39 +47,4 @@ fn join_child(
         &child[..],
         &link[..],
     )
-}
-
-// Rebuilds the row of p where there is room for it.
-pub(crate) fn rebuild_row(
-    costs: &mut [u64],
-    choices: &mut [u16],
-    child: &mut [u64],
-    link: &mut [u64],
-    records: Records,
-    sums: &[u32],
-    p: usize,
-    size: usize,
-) -> u64
-    requires room { ⌜ RebuildRoom records size p (now costs) (now choices) ⌝ }
-    requires scratch { ⌜ Scratch size (now child) (now link) (now sums) ⌝ }
-    ensures { λ n. ⌜ Rebuilds (source records size p (now (sums .entry)) (now (costs .entry))) size p (records .cabinets)
-        (now (costs .entry)) (now (costs .exit)) (now (choices .entry)) (now (choices .exit)) n ⌝ }
-{
-    let n = records.cabinets;
-    let own = node_at(records, p);
-    let at = p * size;
-    let end = at + size;
-    fill_own(&mut costs[at..end], sums, own);
-    let mut count: u64 = 0;
-    let mut c = p + 1;
-    while c < n {
-        let d = c;
-        c += 1;
-        if index(records.parent[d]) != p {
-            continue;
-        }
-        let k = node_at(records, d);
-        count += join_child(costs, choices, child, link, k, sums, p, d, size);
-    }
-    count
 }

@@ -3,6 +3,7 @@ ghost use mathlib.Core.Path.{_≡_};
 ghost use mathlib.Core.Bool.{cond};
 ghost use Prim.Native.Nat.{_-_, min};
 ghost use lib.Bits.{bitAnd};
+ghost use Rattle.finite.specs.Below.{only};
 ghost use Rattle.subsets.specs.Sets.{has};
 ghost use Rattle.subsets.specs.Figures.{is-cost, weighing};
 ghost use Rattle.subsets.specs.Powers.{power-of-three};
@@ -93,4 +94,11 @@ pub fn member(x: usize, i: usize) -> bool
         return false;
     }
     (x >> i) & 1 == 1
+}
+
+// n where the test passes, else 0.
+pub fn only_if(test: bool, n: u64) -> u64
+    ensures { λ m. ⌜ m ≡ only test n ⌝ }
+{
+    if test { n } else { 0 }
 }

@@ -1,19 +1,25 @@
 -- `check` meets its contract: each test decides, or leaves what the next one needs.
-use mathlib.Core.Path.{_≡_, sym, _∙_}
-use borrow.Author.Tests.{not-true, not-false}
-use lib.ListN.{length}
-use Rattle.sheet.specs.Instance.{instance}
-use Rattle.sheet.specs.declared.Sheet.{Sheet}
-use Rattle.sheet.proofs.Promises.{counts}
-use Rattle.embedding.specs.Plan.{place, in-range}
-use Rattle.checker.specs.Inner.Records.{Reads, Placed}
-use Rattle.checker.proofs.Deciding as deciding
+use Prim.Native.Nat.{ℕ}
+use mathlib.Core.Path.{_≡_, sym, ap, _∙_, subst}
 use borrow.Author.Needs.{needs}
+use lib.ListN.{length}
+use mathlib.Core.List.{List}
+use borrow.Author.Tests.{not-true, not-false}
+use Rattle.sheet.specs.Reading.{reading}
+use Rattle.sheet.specs.Instance.{Instance, WellFormed, instance}
+use Rattle.sheet.specs.declared.Sheet.{Sheet}
+use Rattle.sheet.specs.declared.Reading.the-variants as readings
+use Rattle.sheet.proofs.Promises as promises
+use Rattle.records.specs.declared.Records.{Records}
+use Rattle.records.specs.Told.{told}
+use Rattle.embedding.specs.Plan.{place, in-range}
+use Rattle.checker.specs.Inner.Records.{Placed}
+use Rattle.checker.proofs.Deciding as deciding
 use Rattle.checker.proofs.check.Statement.{statement}
 use Rattle.checker.proofs.check.Tie as tie
 
-read-requires : tie.Need-read-requires
-read-requires c κs = search needs
+load-requires : tie.Need-load-requires
+load-requires c κs = search needs
 
 enum-known-answer : tie.Need-enum-known-answer
 enum-known-answer c = search needs
@@ -32,23 +38,84 @@ returns c = search needs
 
 returns-2 : tie.Need-returns-2
 returns-2 c =
-    let a = c .before .before .before .before .before .before .before .before .before .args in
-    deciding.handed-on (a .bytes .now) (a .plan .now) _ (sym (c .before .before .before .before .before .before .read .ensures) ∙ c .before .before .before .before .answer2 .given .1 ∙ c .before .answer3 .given .1)
+    let l = c .before .before .before .before .before .before in
+    let a = l .before .before .before .args in
+    deciding.handed-on (a .bytes .now) (a .plan .now) _ (sym (l .load .ensures .0) ∙ c .before .before .before .before .answer2 .given .1 ∙ c .before .answer3 .given .1)
 
--- the sheet that the reader gave
+-- ---- the nodes of the code: where the reader has accepted, and after each test of the plan
+
+-- where the reader has accepted: the bytes and the plan
+abbrev bytes-of : tie.After-answer → List ℕ
+bytes-of c = c .before .before .before .before .before .args .bytes .now
+
+abbrev plan-of : tie.After-answer → List ℕ
+plan-of c = c .before .before .before .before .before .args .plan .now
+
+-- the sheet that the reader gave, and its records
 abbrev sheet : tie.After-answer → Sheet
 sheet c = c .answer .given .0 .0
 
-reads : (c : tie.After-answer) → Reads (c .before .before .before .before .before .args .bytes .now) (sheet c)
-reads c = sym (c .before .before .read .ensures) ∙ c .answer .given .1
+reads : (c : tie.After-answer) → reading (bytes-of c) ≡ readings.Accepted (sheet c)
+reads c = sym (c .before .before .load .ensures .0) ∙ c .answer .given .1
+
+abbrev records-of : tie.After-answer → Records
+records-of c = c .before .before .load .result .records
+
+abbrev inst : tie.After-answer → Instance
+inst c = told (records-of c)
+
+same : (c : tie.After-answer) → inst c ≡ instance (bytes-of c)
+same c = c .before .before .load .ensures .1 .accepted (sheet c) (reads c)
+
+well-formed : (c : tie.After-answer) → WellFormed (inst c)
+well-formed c = subst WellFormed (sym (same c)) (promises.well-formed (bytes-of c) (sheet c) (reads c))
+
+-- the counts of the sheet are those of the instance
+services-are : (c : tie.After-answer) → sheet c .services ≡ inst c .r
+services-are c = promises.counts (bytes-of c) (sheet c) (reads c) .0 ∙ sym (ap (λ (I : Instance). I .r) (same c))
+
+cabinets-are : (c : tie.After-answer) → sheet c .cabinets ≡ inst c .s
+cabinets-are c = promises.counts (bytes-of c) (sheet c) (reads c) .1 ∙ sym (ap (λ (I : Instance). I .s) (same c))
+
+-- after the count of services: the accepted sheet
+abbrev read-of : tie.After-services → tie.After-answer
+read-of c = c .before .before
+
+-- after the test of the range: the plan has as many places as the sheet has services
+abbrev sized-of : tie.After-is-in-range → tie.Else1
+sized-of c = c .before .before
+
+-- after the test of the cabinets: all places are in range
+abbrev ranged-of : tie.After-are-cabinets-kept → tie.Else2
+ranged-of c = c .before .before
+
+-- the plan's places
+places : (c : tie.Else1) → let a = read-of (c .before) in length (plan-of a) ≡ inst a .r
+places c = c .if1 .left ∙ c .before .services .ensures ∙ services-are (read-of (c .before))
+
+-- the code's test of the range is the definition's
+range-is : (c : tie.After-is-in-range) → let a = read-of (sized-of c .before) in c .is-in-range .result ≡ in-range (inst a) (place (plan-of a))
+range-is c =
+    let a = read-of (sized-of c .before) in
+    c .is-in-range .ensures ∙ deciding.range-is (inst a) (plan-of a) (c .before .cabinets .result) (places (sized-of c)) (c .before .cabinets .ensures ∙ cabinets-are a)
+
+-- what the tests so far have shown
+placed : (c : tie.Else2) → let a = read-of (sized-of (c .before) .before) in Placed (records-of a) (plan-of a)
+placed c = record {
+  well-formed = well-formed (read-of (sized-of (c .before) .before));
+  places = places (sized-of (c .before));
+  range = sym (range-is (c .before)) ∙ not-false _ (c .if2 .left);
+}
+
+-- ---- the needs
 
 services-requires : tie.Need-services-requires
 services-requires c κs = search needs
 
 returns-3 : tie.Need-returns-3
 returns-3 c =
-    let a = c .before .before .before .before .before .before .before .before .args in
-    deciding.wrong-length (a .bytes .now) (a .plan .now) (sheet (c .before .before .before)) (reads (c .before .before .before)) (λ e. c .if1 .taken (e ∙ sym (counts (a .bytes .now) (sheet (c .before .before .before)) (reads (c .before .before .before)) .0) ∙ sym (c .before .services .ensures)))
+    let a = read-of (c .before) in
+    deciding.wrong-length (bytes-of a) (plan-of a) (sheet a) (reads a) (inst a) (same a) (λ e. c .if1 .taken (e ∙ sym (c .before .services .ensures ∙ services-are a)))
 
 cabinets-requires : tie.Need-cabinets-requires
 cabinets-requires c κs = search needs
@@ -56,52 +123,41 @@ cabinets-requires c κs = search needs
 is-in-range-requires : tie.Need-is-in-range-requires
 is-in-range-requires c κs = search needs
 
--- the plan has as many places as the sheet has services
-places : (c : tie.Else1) → length (c .before .before .before .before .before .before .before .before .args .plan .now) ≡ instance (c .before .before .before .before .before .before .before .before .args .bytes .now) .r
-places c = c .if1 .left ∙ c .before .services .ensures ∙ counts (c .before .before .before .before .before .before .before .before .args .bytes .now) (sheet (c .before .before .before)) (reads (c .before .before .before)) .0
-
--- the code's test is the definition's
-ranged : (c : tie.After-is-in-range) → c .is-in-range .result ≡ in-range (instance (c .before .before .before .before .before .before .before .before .before .before .args .bytes .now)) (place (c .before .before .before .before .before .before .before .before .before .before .args .plan .now))
-ranged c =
-    let a = c .before .before .before .before .before .before .before .before .before .before .args in
-    c .is-in-range .ensures
-    ∙ deciding.range-is (instance (a .bytes .now)) (a .plan .now) (c .before .cabinets .result) (places (c .before .before)) (c .before .cabinets .ensures ∙ counts (a .bytes .now) (sheet (c .before .before .before .before .before)) (reads (c .before .before .before .before .before)) .1)
-
 returns-4 : tie.Need-returns-4
 returns-4 c =
-    let a = c .before .before .before .before .before .before .before .before .before .before .before .args in
-    deciding.out-of-range (a .bytes .now) (a .plan .now) (sheet (c .before .before .before .before .before .before)) (reads (c .before .before .before .before .before .before)) (places (c .before .before .before)) (sym (ranged (c .before)) ∙ not-true _ (c .if2 .taken))
-
--- what the tests so far have shown
-placed : (c : tie.Else2) → Placed (c .before .before .before .before .before .before .before .before .before .before .before .args .bytes .now) (sheet (c .before .before .before .before .before .before)) (c .before .before .before .before .before .before .before .before .before .before .before .args .plan .now)
-placed c = record { reads = reads (c .before .before .before .before .before .before); places = places (c .before .before .before); range = sym (ranged (c .before)) ∙ not-false _ (c .if2 .left) }
+    let s = sized-of (c .before) in
+    let a = read-of (s .before) in
+    deciding.out-of-range (bytes-of a) (plan-of a) (sheet a) (reads a) (inst a) (same a) (places s) (sym (range-is (c .before)) ∙ not-true _ (c .if2 .taken))
 
 are-cabinets-kept-requires : tie.Need-are-cabinets-kept-requires
-are-cabinets-kept-requires c κs = placed c
+are-cabinets-kept-requires c κs = placed (c .before)
 
 returns-5 : tie.Need-returns-5
 returns-5 c =
-    let a = c .before .before .before .before .before .before .before .before .before .before .before .before .before .args in
-    let p = placed (c .before .before) in
-    deciding.cabinet-overfull (a .bytes .now) (a .plan .now) (sheet (c .before .before .before .before .before .before .before .before)) (p .reads) (p .places) (p .range) (sym (c .before .are-cabinets-kept .ensures) ∙ not-true _ (c .if3 .taken))
+    let k = c .before in
+    let a = read-of (sized-of (ranged-of k .before) .before) in
+    let p = placed (ranged-of k) in
+    deciding.cabinet-overfull (bytes-of a) (plan-of a) (sheet a) (reads a) (inst a) (same a) (p .places) (p .range) (sym (k .are-cabinets-kept .ensures) ∙ not-true _ (c .if3 .taken))
 
 cabinets-cost-requires : tie.Need-cabinets-cost-requires
-cabinets-cost-requires c κs = placed (c .before .before)
+cabinets-cost-requires c κs = placed (ranged-of (c .before))
 
 walk-links-requires : tie.Need-walk-links-requires
-walk-links-requires c κs = (placed (c .before .before .before), c .cabinets-cost .ensures)
+walk-links-requires c κs = (placed (ranged-of (c .before .before)), c .cabinets-cost .ensures)
 
 returns-6 : tie.Need-returns-6
 returns-6 c =
-    let a = c .before .before .before .before .before .before .before .before .before .before .before .before .before .before .before .args in
-    let p = placed (c .before .before .before .before) in
-    c .walk-links .ensures ∙ deciding.by-walk (a .bytes .now) (a .plan .now) (sheet (c .before .before .before .before .before .before .before .before .before .before)) (p .reads) (p .places) (p .range) (sym (c .before .before .before .are-cabinets-kept .ensures) ∙ not-false _ (c .before .before .if3 .left))
+    let k = c .before .before .before in
+    let a = read-of (sized-of (ranged-of k .before) .before) in
+    let p = placed (ranged-of k) in
+    c .walk-links .ensures
+    ∙ deciding.by-walk (bytes-of a) (plan-of a) (sheet a) (reads a) (inst a) (same a) (p .places) (p .range) (sym (k .are-cabinets-kept .ensures) ∙ not-false _ (c .before .before .if3 .left))
 
 pub check-spec : {M : Type 1} → statement M
 check-spec =
     tie.close
     (tie.spec
-    read-requires
+    load-requires
     enum-known-answer
     enum-known-answer-2
     enum-known-answer-3

@@ -3,78 +3,62 @@ use Prim.Native.Nat.{ℕ, _+_, _-_, _*_, _≤_}
 use native.Mathlib.Omega.{arith}
 use mathlib.Core.Path.{_≡_, ap, ap₂, _∙_}
 use borrow.Author.Needs.{needs}
-use Rattle.sheet.specs.Instance.{instance}
-use Rattle.sheet.proofs.Promises.{counts, well-formed}
-use Rattle.embedding.specs.Plan.{place}
-use Rattle.sheet.specs.declared.Cabinet.{Cabinet}
 use Rattle.finite.proofs.Sums.{sum-start}
-use Rattle.embedding.proofs.Mappings.{range-test}
+use Rattle.sheet.specs.declared.Service.{Service}
+use Rattle.sheet.specs.declared.Cabinet.{Cabinet}
+use Rattle.records.specs.Told.{told}
+use Rattle.embedding.specs.Plan.{place}
+use Rattle.checker.proofs.Told.{counts}
 use Rattle.checker.proofs.Placing.{charged, charged-next, charged-all, charged-low, fee-le}
 use Rattle.checker.proofs.cabinets.cabinets_cost.Statement.{statement}
 use Rattle.checker.proofs.cabinets.cabinets_cost.Tie as tie
 
 abbrev Inv-loop : tie.InvT-loop
-Inv-loop sheet bytes plan services cost₀ i₀ cost i = (i ≤ services) × (services ≡ instance bytes .r) × (cost ≡ charged (instance bytes) (place plan) i)
+Inv-loop records plan services cost₀ i₀ cost i = (i ≤ services) × (cost ≡ charged (told records) (place plan) i)
 
 abbrev μ-loop : tie.MeasureT-loop
-μ-loop sheet bytes plan services cost₀ i₀ cost i = services - i
-
-services-requires : tie.Need-services-requires Inv-loop μ-loop
-services-requires c κs = search needs
+μ-loop records plan services cost₀ i₀ cost i = services - i
 
 loop-holds : tie.Need-loop-holds Inv-loop μ-loop
-loop-holds c =
-    let a = c .before .before .before in
-    (search needs, c .services .ensures ∙ counts (a .args .bytes .now) (a .args .sheet) (a .pre .reads) .0, sum-start _)
+loop-holds c = (search needs, sum-start _)
 
-mul-wide : tie.Need-mul-wide Inv-loop μ-loop
-mul-wide c = search needs
+service-requires : tie.Need-service-requires Inv-loop μ-loop
+service-requires c κs = search needs
 
-shared-slice-read-wide : tie.Need-shared-slice-read-wide Inv-loop μ-loop
-shared-slice-read-wide c = omega (arith, c .before .before .before .before .before .before .pre .places)
-
-wide-requires : tie.Need-wide-requires Inv-loop μ-loop
-wide-requires c κs = search needs
+place-of-requires : tie.Need-place-of-requires Inv-loop μ-loop
+place-of-requires c κs = search needs
 
 cabinet-requires : tie.Need-cabinet-requires Inv-loop μ-loop
-cabinet-requires c κs =
-    let a = c .before .before .before .before .before .before .before in
-    let l = c .before .before .before .loop in
-    (a .pre .reads, omega (arith, c .wide .ensures, range-test (instance (a .args .bytes .now)) (place (a .args .plan .now)) .0 (a .pre .range) (l .i) (search needs)))
-
-demand-requires : tie.Need-demand-requires Inv-loop μ-loop
-demand-requires c κs =
-    let a = c .before .before .before .before .before .before .before .before in
-    (a .pre .reads, search needs)
+cabinet-requires c κs = search needs
 
 -- what this service costs
-fee-now : (c : tie.After-struct-known Inv-loop μ-loop) →
-    let a = c .before .before .before .before .before .before .before .before .before .before .args in
-    let l = c .before .before .before .before .before .before .loop in
-    c .before .demand .result * c .before .before .cabinet .result .price ≡ instance (a .bytes .now) .demand (l .i) * instance (a .bytes .now) .price (place (a .plan .now) (l .i))
+fee-now : (c : tie.After-cabinet Inv-loop μ-loop) →
+    let a = c .before .before .before .before .before .before .args in
+    let l = c .before .before .before .before .loop in
+    c .before .before .service .result .demand * c .cabinet .result .price ≡ told (a .records) .demand (l .i) * told (a .records) .price (place (a .plan .now) (l .i))
 fee-now c =
-    let a = c .before .before .before .before .before .before .before .before .before .before .args in
-    ap₂ (λ (m n : ℕ). m * n) (c .before .demand .ensures)
-    (ap (λ (k : Cabinet). k .price) (c .before .before .cabinet .ensures) ∙ ap (instance (a .bytes .now) .price) (c .before .before .before .wide .ensures))
+    let a = c .before .before .before .before .before .before .args in
+    ap₂ (λ (s : Service) (k : Cabinet). s .demand * k .price) (c .before .before .service .ensures) (c .cabinet .ensures)
+    ∙ ap (λ (d : ℕ). told (a .records) .demand (c .before .before .before .before .loop .i) * told (a .records) .price d) (c .before .place-of .ensures)
 
 mul-cost : tie.Need-mul-cost Inv-loop μ-loop
 mul-cost c =
-    let a = c .before .before .before .before .before .before .before .before .before .before in
+    let a = c .before .before .before .before .before .before .before .before .args in
     let l = c .before .before .before .before .before .before .loop in
-    omega (arith, fee-now c, fee-le (instance (a .args .bytes .now)) (place (a .args .plan .now)) (well-formed (a .args .bytes .now) (a .args .sheet) (a .pre .reads)) (l .i) (place (a .args .plan .now) (l .i)))
+    omega (arith, fee-now (c .before .before), fee-le (told (a .records)) (place (a .plan .now)) (c .before .before .before .before .before .before .before .before .pre .well-formed) (l .i) (place (a .plan .now) (l .i)))
 
 add-cost : tie.Need-add-cost Inv-loop μ-loop
 add-cost c =
-    let a = c .before .before .before .before .before .before .before .before .before .before in
+    let a = c .before .before .before .before .before .before .before .before .args in
     let l = c .before .before .before .before .before .before .loop in
-    let I = instance (a .args .bytes .now) in
-    let W = well-formed (a .args .bytes .now) (a .args .sheet) (a .pre .reads) in
+    let I = told (a .records) in
+    let p = c .before .before .before .before .before .before .before .before .pre in
     omega (
       arith,
-      fee-now c,
-      l .inv .2,
-      fee-le I (place (a .args .plan .now)) W (l .i) (place (a .args .plan .now) (l .i)),
-      charged-low I (place (a .args .plan .now)) W (a .pre .range) (l .i) (search needs),
+      fee-now (c .before .before),
+      l .inv .1,
+      fee-le I (place (a .plan .now)) (p .well-formed) (l .i) (place (a .plan .now) (l .i)),
+      charged-low I (place (a .plan .now)) (p .well-formed) (p .range) (l .i) (omega (arith, c .before .before .before .before .before .loop-test .taken, counts (a .records) .0)),
     )
 
 add-i : tie.Need-add-i Inv-loop μ-loop
@@ -85,15 +69,16 @@ loop-less c = search needs
 
 loop-again : tie.Need-loop-again Inv-loop μ-loop
 loop-again c =
-    let a = c .before .before .before .before .before .before .before .before .before .before .args in
+    let a = c .before .before .before .before .before .before .before .before .args in
     let l = c .before .before .before .before .before .before .loop in
-    (search needs, l .inv .1, ap₂ (λ (m n : ℕ). m + n) (l .inv .2) (fee-now c) ∙ charged-next (instance (a .bytes .now)) (place (a .plan .now)) (l .i))
+    (search needs, ap₂ (λ (m n : ℕ). m + n) (l .inv .1) (fee-now (c .before .before)) ∙ charged-next (told (a .records)) (place (a .plan .now)) (l .i))
 
 returns : tie.Need-returns Inv-loop μ-loop
 returns c =
-    let a = c .before .before .before .before .before .args in
+    let a = c .before .before .before .args in
     let l = c .before .loop in
-    l .inv .2 ∙ charged-all (instance (a .bytes .now)) (place (a .plan .now)) (l .i) (search needs) (search needs)
+    let k = counts (a .records) .0 in
+    l .inv .1 ∙ charged-all (told (a .records)) (place (a .plan .now)) (l .i) (omega (arith, l .inv .0, k)) (omega (arith, c .loop-test .left, k))
 
 pub cabinets-cost-spec : {M : Type 1} → statement M
 cabinets-cost-spec =
@@ -101,13 +86,10 @@ cabinets-cost-spec =
     (tie.spec
     Inv-loop
     μ-loop
-    services-requires
     loop-holds
-    mul-wide
-    shared-slice-read-wide
-    wide-requires
+    service-requires
+    place-of-requires
     cabinet-requires
-    demand-requires
     mul-cost
     add-cost
     add-i

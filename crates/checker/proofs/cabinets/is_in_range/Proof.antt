@@ -1,11 +1,11 @@
 -- `is_in_range` meets its contract. The invariant: the places passed are all in range.
 use Prim.Native.Nat.{_-_, _≤_, _<_}
-use mathlib.Core.Path.{_≡_}
-use mathlib.Core.Bool.{true}
 use native.Mathlib.Omega.{arith}
-use lib.Dec.{ltb}
-use lib.ListN.{length}
+use mathlib.Core.Path.{_≡_}
 use borrow.Author.Needs.{needs}
+use lib.ListN.{length}
+use mathlib.Core.Bool.{true}
+use lib.Dec.{ltb}
 use borrow.Author.Tests.{lt-ltb, le-ltb}
 use Rattle.finite.specs.Below.{all-below}
 use Rattle.finite.proofs.Tests.{all-start, all-next, all-end, all-stop}
@@ -22,21 +22,15 @@ abbrev μ-loop : tie.MeasureT-loop
 loop-holds : tie.Need-loop-holds Inv-loop μ-loop
 loop-holds c = (search needs, all-start _)
 
-mul-wide : tie.Need-mul-wide Inv-loop μ-loop
-mul-wide c = search needs
-
-shared-slice-read-wide : tie.Need-shared-slice-read-wide Inv-loop μ-loop
-shared-slice-read-wide c = search needs
-
-wide-requires : tie.Need-wide-requires Inv-loop μ-loop
-wide-requires c κs = search needs
+place-of-requires : tie.Need-place-of-requires Inv-loop μ-loop
+place-of-requires c κs = search needs
 
 returns : tie.Need-returns Inv-loop μ-loop
 returns c =
-    let a = c .before .before .before .before .before .before .args in
-    let l = c .before .before .before .before .loop in
-    let f : a .cabinets ≤ place (a .plan .now) (l .i) = omega (arith, c .before .wide .ensures) in
-    all-stop (length (a .plan .now)) (λ k. ltb (place (a .plan .now) k) (a .cabinets)) (l .i) (c .before .before .before .loop-test .taken) (le-ltb _ _ f)
+    let a = c .before .before .before .before .before .args in
+    let l = c .before .before .before .loop in
+    let f : a .cabinets ≤ place (a .plan .now) (l .i) = omega (arith, c .before .place-of .ensures) in
+    all-stop (length (a .plan .now)) (λ k. ltb (place (a .plan .now) k) (a .cabinets)) (l .i) (c .before .before .loop-test .taken) (le-ltb _ _ f)
 
 add-i : tie.Need-add-i Inv-loop μ-loop
 add-i c = search needs
@@ -46,9 +40,9 @@ loop-less c = search needs
 
 loop-again : tie.Need-loop-again Inv-loop μ-loop
 loop-again c =
-    let a = c .before .before .before .before .before .before .args in
-    let l = c .before .before .before .before .loop in
-    let f : place (a .plan .now) (l .i) < a .cabinets = omega (arith, c .before .wide .ensures) in
+    let a = c .before .before .before .before .before .args in
+    let l = c .before .before .before .loop in
+    let f : place (a .plan .now) (l .i) < a .cabinets = omega (arith, c .before .place-of .ensures) in
     (search needs, all-next (l .i) (λ k. ltb (place (a .plan .now) k) (a .cabinets)) (l .inv .1) (lt-ltb _ _ f))
 
 returns-2 : tie.Need-returns-2 Inv-loop μ-loop
@@ -64,9 +58,7 @@ is-in-range-spec =
     Inv-loop
     μ-loop
     loop-holds
-    mul-wide
-    shared-slice-read-wide
-    wide-requires
+    place-of-requires
     returns
     add-i
     loop-less

@@ -1,0 +1,97 @@
+// What a plan's streams put on one link: the link above cabinet c carries the streams that leave the cabinets under c upwards, and
+// those that enter them downwards.
+ghost use mathlib.Core.Path.{_≡_};
+ghost use mathlib.Core.Bool.{_&&_, not, false};
+ghost use Prim.Native.Nat.{_≤_, _<_};
+ghost use lib.ListN.{getD};
+ghost use Rattle.finite.specs.Below.{only};
+ghost use Rattle.sheet.specs.Limits.{max-cabinets};
+ghost use Rattle.records.specs.Told.{told};
+ghost use Rattle.embedding.specs.Plan.{place};
+ghost use Rattle.checker.specs.Loads.{has-link, loads};
+ghost use Rattle.checker.specs.Inner.Records.{Marked};
+use crate::cabinets::place_of;
+use crate::numbers::index;
+use crate::numbers::wide;
+use records::Records;
+use records::field;
+use sheet::Sheet;
+use subsets::only_if;
+
+// What the streams put on each direction of a link.
+pub struct Loads {
+    pub up: u64,
+    pub down: u64,
+}
+
+// Whether cabinet d is marked; none past the marks is.
+fn is_marked(marks: &[bool], d: usize) -> bool
+    ensures { λ b. ⌜ b ≡ getD (now (marks .entry)) d false ⌝ }
+{
+    if marks.len() <= d {
+        return false;
+    }
+    marks[d]
+}
+
+// Marks the cabinets under c: c itself, and each one whose parent is marked before it.
+pub(crate) fn mark_under(records: Records, c: usize) -> [bool; Sheet::MAX_CABINETS]
+    requires { ⌜ (0 < c) × (c < told records .s) × (told records .s ≤ max-cabinets) ⌝ }
+    ensures { λ marks. ⌜ Marked (told records) c marks ⌝ }
+{
+    let parents = records.parent;
+    let mut marks = [false; Sheet::MAX_CABINETS];
+    marks[c] = true;
+    let mut d = c + 1;
+    while d < records.cabinets {
+        let parent = index(field(&parents, records.cabinets, d));
+        marks[d] = is_marked(&marks, parent);
+        d += 1;
+    }
+    marks
+}
+
+// The demand of a stream where it leaves the marked cabinets, else 0.
+pub(crate) fn leaving(marks: &[bool], plan: &[u16], from: usize, to: usize, demand: u64) -> u64
+    ensures { λ n. ⌜ n ≡ only (getD (now (marks .entry)) (place (now (plan .entry)) from) false && not (getD (now (marks .entry)) (place (now (plan .entry)) to) false)) demand ⌝ }
+{
+    let starts = is_marked(marks, place_of(plan, from));
+    let ends = is_marked(marks, place_of(plan, to));
+    only_if(starts & !ends, demand)
+}
+
+// Whether there is a link above c, in records whose counts are within the limits.
+fn has_link(records: Records, c: usize) -> bool
+    ensures { λ b. ⌜ b ≡ has-link (told records) c ⌝ }
+{
+    let cabinets = records.cabinets;
+    (0 < c)
+        & (c < cabinets)
+        & (cabinets <= Sheet::MAX_CABINETS)
+        & (records.streams <= Sheet::MAX_STREAMS)
+}
+
+// What the plan puts on the link above c; nothing where there is no such link. Any records and any plan will do.
+pub fn link_loads(records: Records, plan: &[u16], c: usize) -> Loads
+    ensures { λ l. ⌜ l ≡ loads (told records) (place (now (plan .entry))) c ⌝ }
+{
+    if !has_link(records, c) {
+        return Loads { up: 0, down: 0 };
+    }
+    let marks = mark_under(records, c);
+    let from = records.from;
+    let to = records.to;
+    let load = records.load;
+    let mut up = 0;
+    let mut down = 0;
+    let mut j = 0;
+    while j < records.streams {
+        let a = index(field(&from, records.streams, j));
+        let b = index(field(&to, records.streams, j));
+        let demand = wide(field(&load, records.streams, j));
+        up += leaving(&marks, plan, a, b, demand);
+        down += leaving(&marks, plan, b, a, demand);
+        j += 1;
+    }
+    Loads { up: up, down: down }
+}
