@@ -7,7 +7,7 @@ use mathlib.Core.Bool.{Bool, true, false, _&&_, _||_, or-true}
 use lib.Dec.{eqb}
 use borrow.Author.Tests.{eqb-true, eqb-false}
 use Rattle.finite.specs.Below.{all-below, any-below}
-use Rattle.finite.proofs.Booleans.{clash, both, both-l, both-r, neither, neither-l, neither-r, is-false}
+use Rattle.finite.proofs.Booleans.{clash, both, both-l, both-r, neither, neither-l, neither-r, is-false, same-test}
 
 pub all-in : (n : ℕ) (p : ℕ → Bool) → ((d : ℕ) → d < n → p d ≡ true) → all-below n p ≡ true
 unfolding all-below
@@ -27,6 +27,22 @@ pub all-ext : (n : ℕ) (p q : ℕ → Bool) → ((d : ℕ) → d < n → p d �
 unfolding all-below
 all-ext zero p q h = refl
 all-ext (suc n) p q h = ap₂ (λ (a b : Bool). a && b) (all-ext n p q (λ d k. h d (omega arith))) (h n (omega arith))
+
+-- two tests of every number are one test of both
+pub all-both : (n : ℕ) (p q : ℕ → Bool) → all-below n (λ d. p d && q d) ≡ all-below n p && all-below n q
+all-both n p q =
+    same-test (all-below n (λ d. p d && q d)) (all-below n p && all-below n q)
+    (λ h. both _ _
+    (all-in n p (λ d k. both-l (p d) (q d) (all-at n (λ d. p d && q d) h d k)))
+    (all-in n q (λ d k. both-r (p d) (q d) (all-at n (λ d. p d && q d) h d k))))
+    (λ h. all-in n (λ d. p d && q d) (λ d k. both _ _
+    (all-at n p (both-l (all-below n p) (all-below n q) h) d k)
+    (all-at n q (both-r (all-below n p) (all-below n q) h) d k)))
+
+pub any-ext : (n : ℕ) (p q : ℕ → Bool) → ((d : ℕ) → d < n → p d ≡ q d) → any-below n p ≡ any-below n q
+unfolding any-below
+any-ext zero p q h = refl
+any-ext (suc n) p q h = ap₂ _||_ (any-ext n p q (λ d k. h d (omega arith))) (h n (omega arith))
 
 pub any-in : (n : ℕ) (p : ℕ → Bool) (d : ℕ) → d < n → p d ≡ true → any-below n p ≡ true
 unfolding any-below

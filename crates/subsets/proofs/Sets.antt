@@ -1,15 +1,15 @@
--- Laws of sets as binary digits: membership, what a test keeps of a set, subsets, and complement by subtraction.
+-- Laws of sets as binary digits: membership, what a test keeps of a set, subsets, complement by subtraction, one more service, and sets apart.
 use mathlib.Core.Path.{_≡_, refl, sym, ap, _∙_}
-use mathlib.Core.Bool.{Bool, true, false, _&&_, not, and-true, and-false, and-assoc}
-use Prim.Native.Nat.{ℕ, zero, suc, _+_, _-_, _*_, _/_, _%_, _^_, _≤_, _<_, min}
-use native.Mathlib.Nat.{div-one, one-le-pow}
+use mathlib.Core.Bool.{Bool, true, false, _&&_, _||_, not, and-true, and-false, and-assoc}
+use Prim.Native.Nat.{ℕ, zero, suc, _+_, _-_, _*_, _/_, _%_, _^_, _≤_, _<_, min, max}
+use native.Mathlib.Nat.{div-one, one-le-pow, mod-eq-of-lt}
 use native.Mathlib.Omega.{arith}
-use lib.Dec.{eqb}
-use lib.Bits.{bitAnd, and-step, and-le-l, and-le-r, and-comm, and-mask}
+use lib.Dec.{eqb, eqb·zero-suc, eqb·suc-zero, eqb·suc-suc}
+use lib.Bits.{bitAnd, bitOr, and-step, or-step, and-le-l, and-le-r, and-comm, and-mask}
 use lib.Pow.{shr-shr}
 use lib.Arith.{bin-ind}
-use borrow.Author.Tests.{eqb-true, eqb-false, eq-eqb}
-use Rattle.finite.specs.Below.{only, _⇒_}
+use borrow.Author.Tests.{eqb-true, eqb-false, eq-eqb, ne-eqb, not-true}
+use Rattle.finite.specs.Below.{only, all-below, _⇒_}
 use Rattle.finite.proofs.Booleans.{clash, both-l, implies, implied, same-test}
 use Rattle.finite.proofs.Sums.{only-le, only-not}
 use Rattle.finite.proofs.Tests.{all-in, all-at}
@@ -186,6 +186,59 @@ has-full (suc n) (suc i) h =
 -- and it is a set of n services
 pub full-lt : (n : ℕ) → full n < 2 ^ n
 full-lt n = omega (arith, one-le-pow n 2 (omega arith))
+
+-- the services of x below n: all of them where x holds no other
+pub and-full : (n x : ℕ) → x < 2 ^ n → bitAnd x (full n) ≡ x
+and-full n x h = and-mask x n ∙ mod-eq-of-lt h
+
+pub has-and-full : (n x i : ℕ) → i < n → has (bitAnd x (full n)) i ≡ has x i
+has-and-full n x i h = has-and i x (full n) ∙ ap (λ (b : Bool). has x i && b) (has-full n i h) ∙ and-true (has x i)
+
+-- ---- one more service in a set: a | 2^i
+
+-- the empty set has no service
+pub has-zero : (i : ℕ) → has 0 i ≡ false
+has-zero i = has-past 0 0 i (omega arith) (omega arith)
+
+-- 2^i holds service i alone
+pub has-power : (i j : ℕ) → has (2 ^ i) j ≡ eqb i j
+unfolding has
+has-power zero zero = refl
+has-power zero (suc j) = has-zero j ∙ sym (eqb·zero-suc j)
+has-power (suc i) zero = ne-eqb (2 ^ suc i % 2) 1 (λ e. omega arith) ∙ sym (eqb·suc-zero i)
+has-power (suc i) (suc j) = ap (λ (y : ℕ). has y j) (let q : 2 ^ suc i / 2 ≡ 2 ^ i = omega arith in q) ∙ has-power i j ∙ sym (eqb·suc-suc i j)
+
+max-bits : (a b : ℕ) → a < 2 → b < 2 → eqb (max a b) 1 ≡ eqb a 1 || eqb b 1
+max-bits zero zero ha hb = refl
+max-bits zero (suc zero) ha hb = refl
+max-bits zero (suc (suc b)) ha hb = absurd (omega arith)
+max-bits (suc zero) zero ha hb = refl
+max-bits (suc zero) (suc zero) ha hb = refl
+max-bits (suc zero) (suc (suc b)) ha hb = absurd (omega arith)
+max-bits (suc (suc a)) b ha hb = absurd (omega arith)
+
+-- a | b holds the services of either
+pub has-or : (i a b : ℕ) → has (bitOr a b) i ≡ has a i || has b i
+unfolding has
+has-or zero a b =
+    ap (λ (y : ℕ). eqb y 1) (let q : bitOr a b % 2 ≡ max (a % 2) (b % 2) = omega (arith, or-step a b) in q)
+    ∙ max-bits (a % 2) (b % 2) (omega arith) (omega arith)
+has-or (suc i) a b = ap (λ (y : ℕ). has y i) (let q : bitOr a b / 2 ≡ bitOr (a / 2) (b / 2) = omega (arith, or-step a b) in q) ∙ has-or i (a / 2) (b / 2)
+
+-- ---- sets apart: a & x is 0
+
+-- where a & x holds none but the first n services: a and x have none of these in common exactly when a & x is 0
+pub apart-and : (n a x : ℕ) → bitAnd a x < 2 ^ n → all-below n (λ i. has a i ⇒ not (has x i)) ≡ eqb (bitAnd a x) 0
+apart-and n a x h =
+    same-test (all-below n (λ i. has a i ⇒ not (has x i))) (eqb (bitAnd a x) 0)
+    (λ e. eq-eqb (bitAnd a x) 0 (has-ext n (bitAnd a x) 0 h (omega (arith, one-le-pow n 2 (omega arith))) (λ i k.
+    has-and i a x ∙ off (has a i) (has x i) (implied (has a i) (not (has x i)) (all-at n (λ i. has a i ⇒ not (has x i)) e i k)) ∙ sym (has-zero i))))
+    (λ e. all-in n (λ i. has a i ⇒ not (has x i)) (λ i k. implies (has a i) (not (has x i)) (λ m.
+    ap not (ap (λ (t : Bool). t && has x i) (sym m) ∙ sym (has-and i a x) ∙ ap (λ (y : ℕ). has y i) (eqb-true (bitAnd a x) 0 e) ∙ has-zero i))))
+  where
+    off : (s t : Bool) → (s ≡ true → not t ≡ true) → s && t ≡ false
+    off true t f = not-true t (f refl)
+    off false t f = refl
 
 -- ---- the code's test of one service: (x >> i) & 1 is 1
 
