@@ -2,6 +2,9 @@
 ghost use mathlib.Core.Path.{_≡_};
 ghost use Prim.Native.Nat.{_+_, _<_};
 ghost use lib.ListN.{length};
+
+mod bars; // bars.rt: road M with barred pairs
+
 use checker::Checked;
 use sheet::Refusal;
 
@@ -439,4 +442,5 @@ fn main() {
     long_road(true, 5, 10000);
     long_road(true, 5, STAR_LOAD);
     long_road(true, 5, STAR_LOAD - 1);
+    bars::run();
 }

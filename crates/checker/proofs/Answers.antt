@@ -1,15 +1,15 @@
 -- Laws of the check's answers.
-use Prim.Native.Nat.{ℕ, zero, suc, _^_, _≤_, _<_}
-use mathlib.Core.Logic.{_↔_, _⊎_, inl, inr}
+use Prim.Native.Nat.{ℕ, zero, suc, _^_, _<_}
+use mathlib.Core.Logic.{_↔_}
 use mathlib.Core.Path.{_≡_, refl, sym, ap, _∙_}
 use mathlib.Core.Bool.{Bool, true, false, _&&_, not, cond}
-use mathlib.Core.List.{List}
+use mathlib.Core.List.{List, [], _∷_}
 use native.Mathlib.Omega.{arith}
 use lib.Dec.{eqb}
 use lib.ListN.{length}
 use borrow.Author.Tests.{eqb-true, eq-eqb}
 use Rattle.finite.proofs.Booleans.{clash, both-l}
-use Rattle.sheet.specs.Refusals.{first-applying, refusal, number-of, group-of, giving, in-order}
+use Rattle.sheet.specs.Refusals.{one-of, first-applying, refusal, number-of, group-of, giving, in-order}
 use Rattle.sheet.specs.Reading as reader
 use Rattle.sheet.specs.Reading.{reading}
 use Rattle.sheet.specs.Instance.{Instance, instance}
@@ -18,11 +18,11 @@ use Rattle.sheet.specs.declared.Refusal.{Refusal}
 use Rattle.sheet.specs.declared.Reading.{Reading}
 use Rattle.sheet.specs.declared.Reading.the-variants as readings
 use Rattle.sheet.proofs.Promises.{well-formed}
-use Rattle.sheet.proofs.Groups.{number-refusal, own-group, reading-group, first-between, reading-number}
+use Rattle.sheet.proofs.Groups.{number-refusal, own-group, reading-group, one-of-left, first-listed, reading-number}
 use Rattle.sheet.proofs.Order.{after-reader}
-use Rattle.embedding.specs.Plan.{place, in-range, cabinets-keep, links-keep, valid, plan-cost}
+use Rattle.embedding.specs.Plan.{place, in-range, bars-keep, cabinets-keep, links-keep, valid, plan-cost}
 use Rattle.embedding.proofs.Theorems.{cost-bound}
-use Rattle.checker.specs.Check.{rules, all-rules, answered, plan-checked, checked-after, checked}
+use Rattle.checker.specs.Check.{rules, all-rules, check-numbers, answered, plan-checked, checked-after, checked}
 use Rattle.checker.specs.Answers.{number, group, cost}
 use Rattle.checker.specs.declared.Checked.{Checked}
 use Rattle.checker.specs.declared.Checked.the-variants.{Accepted, Refused}
@@ -47,28 +47,25 @@ right-group bytes plan f e = go (reading bytes) refl e
         handed : (g : Refusal) → g ≡ refusal (number-of g) → g ≡ f → f ≡ refusal (number-of f)
         handed g p q = rw (sym q) p
 
--- the numbers of a plan's refusals are 13 to 16
-plan-number : (I : Instance) (plan : List ℕ) (f : Refusal) → plan-checked I plan ≡ Refused f → (13 ≤ number-of f) × (number-of f ≤ 16)
+-- the numbers of a plan's refusals are 13, 14, 20, 15 and 16
+plan-number : (I : Instance) (plan : List ℕ) (f : Refusal) → plan-checked I plan ≡ Refused f → one-of check-numbers (number-of f) ≡ true
 unfolding plan-checked rules answered
 plan-number I plan f e = go (first-applying (rules I plan)) refl e
   where
-    go : (m : ℕ) → first-applying (rules I plan) ≡ m → answered m (plan-cost I (place plan)) ≡ Refused f → (13 ≤ number-of f) × (number-of f ≤ 16)
+    go : (m : ℕ) → first-applying (rules I plan) ≡ m → answered m (plan-cost I (place plan)) ≡ Refused f → one-of check-numbers (number-of f) ≡ true
     go zero q e = absurd (let z : _≡_ {A = ℕ} 0 1 = cc in omega arith)
     go (suc n) q e =
-        let b = first-between 13 16 (rules I plan) refl n q in
         let k : number-of f ≡ suc n = ap number-of (let z : f ≡ refusal (suc n) = cc in z) ∙ number-refusal (suc n) in
-        (omega (arith, b .0), omega (arith, b .1))
+        ap (one-of check-numbers) k ∙ first-listed (one-of check-numbers) (rules I plan) refl n q
 
--- the check's numbers are the reader's, 1 to 9, and 13 to 16
-pub check-number : (bytes plan : List ℕ) (f : Refusal) → checked bytes plan ≡ Refused f
-    → ((1 ≤ number-of f) × (number-of f ≤ 9)) ⊎ ((13 ≤ number-of f) × (number-of f ≤ 16))
+-- the check's numbers are the reader's and those of a plan
+pub check-number : (bytes plan : List ℕ) (f : Refusal) → checked bytes plan ≡ Refused f → one-of check-numbers (number-of f) ≡ true
 unfolding checked checked-after
 check-number bytes plan f e = go (reading bytes) refl e
   where
-    go : (r : Reading) → reading bytes ≡ r → checked-after r (instance bytes) plan ≡ Refused f
-        → ((1 ≤ number-of f) × (number-of f ≤ 9)) ⊎ ((13 ≤ number-of f) × (number-of f ≤ 16))
-    go (readings.Accepted h) q e = inr (plan-number (instance bytes) plan f e)
-    go (readings.Refused g) q e = inl (reading-number bytes f (q ∙ ap readings.Refused (let z : g ≡ f = cc in z)))
+    go : (r : Reading) → reading bytes ≡ r → checked-after r (instance bytes) plan ≡ Refused f → one-of check-numbers (number-of f) ≡ true
+    go (readings.Accepted h) q e = plan-number (instance bytes) plan f e
+    go (readings.Refused g) q e = one-of-left reader.reader-numbers (13 ∷ 14 ∷ 20 ∷ 15 ∷ 16 ∷ []) (number-of f) (reading-number bytes f (q ∙ ap readings.Refused (let z : g ≡ f = cc in z)))
 
 -- ---- the order of giving
 
@@ -92,17 +89,18 @@ check-order bytes plan = refl
 
 -- ---- accepted
 
--- the four tests and the cost
-abbrev tested : Bool → Bool → Bool → Bool → ℕ → Checked
-tested a b c d cost = answered (cond (not a) 13 (cond (not b) 14 (cond (not c) 15 (cond (not d) 16 0)))) cost
+-- the five tests and the cost
+abbrev tested : Bool → Bool → Bool → Bool → Bool → ℕ → Checked
+tested a b c d e cost = answered (cond (not a) 13 (cond (not b) 14 (cond (not c) 20 (cond (not d) 15 (cond (not e) 16 0))))) cost
 
-all-passed : (a b c d : Bool) (cost k : ℕ) → (tested a b c d cost ≡ Accepted k) ↔ ((a ≡ true) × (b && (c && d) ≡ true) × (cost ≡ k))
+all-passed : (a b c d e : Bool) (cost k : ℕ) → (tested a b c d e cost ≡ Accepted k) ↔ ((a ≡ true) × (b && (c && (d && e)) ≡ true) × (cost ≡ k))
 unfolding answered
-all-passed true true true true cost k = (λ e. (refl, refl, (cc)), λ e. ap Accepted (e .2))
-all-passed true true true false cost k = (λ e. absurd (let z : _≡_ {A = ℕ} 0 1 = cc in omega arith), λ e. clash (sym (e .1)))
-all-passed true true false d cost k = (λ e. absurd (let z : _≡_ {A = ℕ} 0 1 = cc in omega arith), λ e. clash (sym (e .1)))
-all-passed true false c d cost k = (λ e. absurd (let z : _≡_ {A = ℕ} 0 1 = cc in omega arith), λ e. clash (sym (e .1)))
-all-passed false b c d cost k = (λ e. absurd (let z : _≡_ {A = ℕ} 0 1 = cc in omega arith), λ e. clash (sym (e .0)))
+all-passed true true true true true cost k = (λ e. (refl, refl, (cc)), λ e. ap Accepted (e .2))
+all-passed true true true true false cost k = (λ e. absurd (let z : _≡_ {A = ℕ} 0 1 = cc in omega arith), λ e. clash (sym (e .1)))
+all-passed true true true false t cost k = (λ e. absurd (let z : _≡_ {A = ℕ} 0 1 = cc in omega arith), λ e. clash (sym (e .1)))
+all-passed true true false d t cost k = (λ e. absurd (let z : _≡_ {A = ℕ} 0 1 = cc in omega arith), λ e. clash (sym (e .1)))
+all-passed true false c d t cost k = (λ e. absurd (let z : _≡_ {A = ℕ} 0 1 = cc in omega arith), λ e. clash (sym (e .1)))
+all-passed false b c d t cost k = (λ e. absurd (let z : _≡_ {A = ℕ} 0 1 = cc in omega arith), λ e. clash (sym (e .0)))
 
 -- on a sheet that the reader accepts: a plan is accepted at cost k exactly when it has a place for each service, is valid and costs k
 pub accepted-iff : (bytes : List ℕ) (h : Sheet) → reading bytes ≡ readings.Accepted h → (plan : List ℕ) (k : ℕ) →
@@ -111,7 +109,7 @@ pub accepted-iff : (bytes : List ℕ) (h : Sheet) → reading bytes ≡ readings
 unfolding plan-checked rules first-applying valid
 accepted-iff bytes h reads plan k =
     let I = instance bytes in
-    let t = all-passed (eqb (length plan) (I .r)) (in-range I (place plan)) (cabinets-keep I (place plan)) (links-keep I (place plan)) (plan-cost I (place plan)) k in
+    let t = all-passed (eqb (length plan) (I .r)) (in-range I (place plan)) (bars-keep I (place plan)) (cabinets-keep I (place plan)) (links-keep I (place plan)) (plan-cost I (place plan)) k in
     let e = on-plan bytes plan h reads in (
       λ q. let p = t .0 (sym e ∙ q) in (eqb-true _ _ (p .0), p .1, p .2),
       λ p. e ∙ t .1 (eq-eqb _ _ (p .0), p .1, p .2),
@@ -133,7 +131,7 @@ cost-low bytes plan k e =
     let I = instance bytes in
     let r = accepted-reads bytes plan k e in
     let p = accepted-iff bytes (r .0) (r .1) plan k .0 e in
-    let range : in-range I (place plan) ≡ true = both-l (in-range I (place plan)) (cabinets-keep I (place plan) && links-keep I (place plan)) (p .1) in
+    let range : in-range I (place plan) ≡ true = both-l (in-range I (place plan)) _ (p .1) in
     omega (arith, cost-bound I (well-formed bytes (r .0) (r .1)) (place plan) range, p .2)
 
 -- ---- the numbers of an answer

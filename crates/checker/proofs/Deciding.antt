@@ -15,7 +15,7 @@ use Rattle.sheet.specs.declared.Refusal.{Refusal}
 use Rattle.sheet.specs.declared.Refusal.the-variants.{PlanWriter}
 use Rattle.sheet.specs.declared.Reading.{Reading}
 use Rattle.sheet.specs.declared.Reading.the-variants as readings
-use Rattle.embedding.specs.Plan.{place, in-range, cabinets-keep, links-keep, plan-cost}
+use Rattle.embedding.specs.Plan.{place, in-range, bars-keep, cabinets-keep, links-keep, plan-cost}
 use Rattle.checker.specs.Check.{rules, answered, plan-checked, checked-after, checked}
 use Rattle.checker.specs.Inner.Walk.{walked}
 use Rattle.checker.specs.declared.Checked.the-variants.{Accepted, Refused}
@@ -59,12 +59,17 @@ module _ (bytes plan : List ℕ) where
         out-of-range e = sym (on-told ∙ simp (eq-eqb (length plan) (I .r) places, e))
 
         module _ (range : in-range I (place plan) ≡ true) where
-          pub cabinet-overfull : cabinets-keep I (place plan) ≡ false → Refused (PlanWriter 15) ≡ checked bytes plan
+          pub barred-place : bars-keep I (place plan) ≡ false → Refused (PlanWriter 20) ≡ checked bytes plan
           unfolding plan-checked rules first-applying answered refusal
-          cabinet-overfull e = sym (on-told ∙ simp (eq-eqb (length plan) (I .r) places, range, e))
+          barred-place e = sym (on-told ∙ simp (eq-eqb (length plan) (I .r) places, range, e))
 
-          -- the walk decides what is left
-          pub by-walk : cabinets-keep I (place plan) ≡ true → walked I (place plan) ≡ checked bytes plan
-          unfolding plan-checked rules first-applying walked
-          by-walk e =
-              sym (on-told ∙ simp (eq-eqb (length plan) (I .r) places, range, e) (last (links-keep I (place plan)) (plan-cost I (place plan))))
+          module _ (bars : bars-keep I (place plan) ≡ true) where
+            pub cabinet-overfull : cabinets-keep I (place plan) ≡ false → Refused (PlanWriter 15) ≡ checked bytes plan
+            unfolding plan-checked rules first-applying answered refusal
+            cabinet-overfull e = sym (on-told ∙ simp (eq-eqb (length plan) (I .r) places, range, bars, e))
+
+            -- the walk decides what is left
+            pub by-walk : cabinets-keep I (place plan) ≡ true → walked I (place plan) ≡ checked bytes plan
+            unfolding plan-checked rules first-applying walked
+            by-walk e =
+                sym (on-told ∙ simp (eq-eqb (length plan) (I .r) places, range, bars, e) (last (links-keep I (place plan)) (plan-cost I (place plan))))

@@ -1,10 +1,10 @@
-// What a plan puts on cabinets: refusals 14 and 15, and the cabinets' part of the cost.
+// What a plan puts on cabinets: refusals 14, 20 and 15, and the cabinets' part of the cost.
 ghost use mathlib.Core.Path.{_≡_};
 ghost use lib.Dec.{eqb, ltb};
 ghost use lib.ListN.{length};
 ghost use Rattle.finite.specs.Below.{all-below};
 ghost use Rattle.records.specs.Told.{told};
-ghost use Rattle.embedding.specs.Plan.{place, demand-of, cabinets-keep, cabinets-cost};
+ghost use Rattle.embedding.specs.Plan.{place, demand-of, bars-keep, cabinets-keep, cabinets-cost};
 ghost use Rattle.checker.specs.Inner.Records.{Placed};
 use crate::numbers::index;
 use crate::numbers::wide;
@@ -29,6 +29,21 @@ pub(crate) fn is_in_range(plan: &[u16], cabinets: usize) -> bool
     let mut i = 0;
     while i < plan.len() {
         if cabinets <= place_of(plan, i) {
+            return false;
+        }
+        i += 1;
+    }
+    true
+}
+
+// No service sits on a cabinet that it is barred from.
+pub(crate) fn are_bars_kept(records: Records, plan: &[u16]) -> bool
+    ensures { λ b. ⌜ b ≡ bars-keep (told records) (place (now (plan .entry))) ⌝ }
+{
+    let services = records.services;
+    let mut i = 0;
+    while i < services {
+        if records.is_barred(i, place_of(plan, i)) {
             return false;
         }
         i += 1;

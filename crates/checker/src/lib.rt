@@ -7,6 +7,7 @@ mod links; // links.rt: the walk over the links, and what they charge
 pub mod loads; // loads.rt: what the plan's streams put on one link
 mod numbers; // numbers.rt: numbers of 16 bits, widened
 
+use cabinets::are_bars_kept;
 use cabinets::are_cabinets_kept;
 use cabinets::cabinets_cost;
 use cabinets::is_in_range;
@@ -40,6 +41,9 @@ pub fn check(bytes: &[u8], plan: &[u16]) -> Checked
         return Checked::Refused(Refusal::PlanWriter(14));
     }
     let records = loaded.records;
+    if !are_bars_kept(records, plan) {
+        return Checked::Refused(Refusal::PlanWriter(20));
+    }
     if !are_cabinets_kept(records, plan) {
         return Checked::Refused(Refusal::PlanWriter(15));
     }

@@ -2,7 +2,7 @@
 use Prim.Native.Nat.{ℕ, suc, _+_, _-_, _*_, _^_, _≤_, _<_}
 use native.Mathlib.Omega.{arith}
 use native.Mathlib.Nat.{mul-le-mul, pow-le-pow-right}
-use mathlib.Core.Path.{_≡_, refl, sym, ap, ap₂, _∙_, subst}
+use mathlib.Core.Path.{_≡_, refl, sym, ap₂, _∙_, subst}
 use mathlib.Core.Bool.{Bool, true, false}
 use mathlib.Core.List.{List}
 use lib.Dec.{eqb, ltb}
@@ -12,10 +12,11 @@ use Rattle.finite.specs.Below.{only, sum-below}
 use Rattle.finite.proofs.Booleans.{clash, both, both-l, both-r, same-test}
 use Rattle.subsets.specs.Inner.Rows.{child, choice-at}
 use Rattle.subsets.specs.Inner.Count.{flagged, joins}
+use Rattle.subsets.proofs.Sets.{and-full}
 use Rattle.subsets.proofs.Rows.{child-parent, child-of}
 use Rattle.subsets.proofs.Count.{joins-weighed, triples-le}
 use Rattle.subsets.proofs.Rebuild.{Sourced, rebuilt-holds, rebuilt-chosen, rebuilt-counted}
-use Rattle.rows.specs.Nodes.{record-of}
+use Rattle.rows.specs.Cabinets.{own-of, link-of}
 use Rattle.rows.specs.Charges.{max-sets, all-sums}
 use Rattle.rows.proofs.Guards.{passes}
 use Rattle.rows.specs.Charges.{own-figure, link-figure}
@@ -45,10 +46,10 @@ module _ (k : Records) (G : Good k) {sums : List ℕ} (M : SumsOf k (2 ^ k .serv
       → Sourced (netted k) p (source k (2 ^ k .services) p sums t)
   unfolding cost-entry
   sourced A = record {
-    own = λ x h. ap (own-figure (record-of k p)) (M .demand x h);
+    own = λ x h. ap₂ (own-figure (own-of k p)) (sym (and-full (k .services) x h)) (M .demand x h);
     children = λ c h. same-child c;
     rows = λ c h e x m. A c x h e m;
-    links = λ c h e x m. ap₂ (λ (a b : ℕ). link-figure (record-of k c) a b) (M .leaves x m) (M .enters x m);
+    links = λ c h e x m. ap₂ (λ (a b : ℕ). link-figure (link-of k c) a b) (M .leaves x m) (M .enters x m);
     ties = λ c x a d. refl;
   }
 

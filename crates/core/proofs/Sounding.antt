@@ -16,8 +16,8 @@ use Rattle.subsets.specs.Inner.Net.{Falls}
 use Rattle.subsets.specs.Costs.{some}
 use Rattle.subsets.specs.Figures.{limit}
 use Rattle.subsets.proofs.Provided.{provided-some}
-use Rattle.rows.specs.Nodes as records
-use Rattle.rows.specs.Nodes.{field, parent-of, record-of}
+use Rattle.rows.specs.Cabinets as records
+use Rattle.rows.specs.Cabinets.{field, parent-of}
 use Rattle.core.specs.Sound.{amounts, falling, between, running, rooted, cabinets-sound, fields-sound, sound}
 use Rattle.core.specs.Sums.{demand-in, flow-out}
 use Rattle.core.specs.Tables.{netted}
@@ -125,13 +125,13 @@ module _ (k : Records) (G : Good k) where
 
   -- a bound of every single charge
   pub nodes : (c x n : ℕ) → c < k .cabinets → x < 2 ^ k .services → netted k .node c x ≡ some n → n ≤ 200000000
-  unfolding records.record-of
+  unfolding records.own-of
   nodes c x n hc hx e =
       let w = provided-some _ _ n .0 e in
-      omega (arith, w .1, product-le (demand-in (k .demand) (k .services) x) (field (k .cabinets) (k .capacity) c) (field (k .cabinets) (k .price) c) (leb-true _ _ (w .0)) (G .capacities c) (G .prices c))
+      omega (arith, w .1, product-le (demand-in (k .demand) (k .services) x) (field (k .cabinets) (k .capacity) c) (field (k .cabinets) (k .price) c) (leb-true _ _ (both-l (leb (demand-in (k .demand) (k .services) x) (field (k .cabinets) (k .capacity) c)) _ (w .0))) (G .capacities c) (G .prices c))
 
   pub links : (c x n : ℕ) → c < k .cabinets → x < 2 ^ k .services → netted k .link c x ≡ some n → n ≤ 200000000
-  unfolding records.record-of
+  unfolding records.link-of
   links c x n hc hx e =
       let w = provided-some _ _ n .0 e in
       let o = flow-out (k .from) (k .to) (k .load) (k .streams) x in

@@ -4,6 +4,7 @@ use Prim.Native.Nat.{ℕ, _*_, _^_, _≤_, _<_}
 use mathlib.Core.Path.{_≡_}
 use mathlib.Core.Bool.{Bool, true, false, _&&_}
 use mathlib.Core.List.{List}
+use lib.Bits.{bitAnd}
 use lib.Dec.{ltb, eqb}
 use lib.ListN.{length, getD, replicate}
 use Rattle.finite.specs.Below.{only}
@@ -15,7 +16,7 @@ use Rattle.subsets.specs.Inner.Rows.{row-at, choice-at}
 use Rattle.subsets.specs.Inner.Count.{weighed}
 use Rattle.subsets.specs.Inner.Back.{seat}
 use Rattle.sheet.specs.Limits.{max-services, max-streams}
-use Rattle.rows.specs.Nodes.{parent-of, record-of}
+use Rattle.rows.specs.Cabinets.{parent-of, own-of, link-of}
 use Rattle.core.specs.Sound.{sound}
 use Rattle.rows.specs.Charges.{max-sets, all-sums, own-cost, link-cost}
 use Rattle.core.specs.Sums.{demand-in, flow-out, SumsOf}
@@ -24,15 +25,15 @@ use Rattle.records.specs.declared.Records.{Records}
 use Rattle.core.specs.declared.Kept.{Kept}
 use Rattle.core.specs.declared.Kept.the-variants.{Plan, NoPlan, Unfit}
 
--- the net of the records
+-- the net of the records; a cabinet charges for those services of x that are there
 abbrev pub netted : Records → Net
 netted k =
     record {
       r = k .services;
       s = k .cabinets;
       parent = parent-of k;
-      node = λ c x. own-cost (record-of k c) (demand-in (k .demand) (k .services) x);
-      link = λ c x. link-cost (record-of k c) (flow-out (k .from) (k .to) (k .load) (k .streams) x) (flow-out (k .to) (k .from) (k .load) (k .streams) x);
+      node = λ c x. own-cost (own-of k c) (bitAnd x (full (k .services))) (demand-in (k .demand) (k .services) x);
+      link = λ c x. link-cost (link-of k c) (flow-out (k .from) (k .to) (k .load) (k .streams) x) (flow-out (k .to) (k .from) (k .load) (k .streams) x);
     }
 
 -- a cost entry: the figure of the least charge of x on p and all cabinets under it

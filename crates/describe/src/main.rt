@@ -57,6 +57,16 @@ fn stream(sheet: sheet::Sheet, bytes: &[u8], j: usize) {
     end_line();
 }
 
+fn pair(sheet: sheet::Sheet, bytes: &[u8], n: usize) {
+    let sheet::PairRecord::Given(p) = sheet.pair(bytes, n) else {
+        return;
+    };
+    heading(b"barred", n);
+    number(p.service as u64);
+    number(p.cabinet as u64);
+    end_line();
+}
+
 fn counts(sheet: sheet::Sheet) {
     io::write_all(1, b"services");
     number(sheet.services() as u64);
@@ -66,6 +76,9 @@ fn counts(sheet: sheet::Sheet) {
     end_line();
     io::write_all(1, b"streams");
     number(sheet.streams() as u64);
+    end_line();
+    io::write_all(1, b"barred pairs");
+    number(sheet.pairs() as u64);
     end_line();
 }
 
@@ -84,6 +97,12 @@ fn cabinets(sheet: sheet::Sheet, bytes: &[u8]) {
 fn streams(sheet: sheet::Sheet, bytes: &[u8]) {
     for j in 0..sheet.streams() {
         stream(sheet, bytes, j);
+    }
+}
+
+fn pairs(sheet: sheet::Sheet, bytes: &[u8]) {
+    for n in 0..sheet.pairs() {
+        pair(sheet, bytes, n);
     }
 }
 
@@ -106,6 +125,7 @@ fn describe(bytes: &[u8]) {
     services(sheet, bytes);
     cabinets(sheet, bytes);
     streams(sheet, bytes);
+    pairs(sheet, bytes);
 }
 
 fn main() {

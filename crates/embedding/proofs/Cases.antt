@@ -1,16 +1,17 @@
--- Small roads, by computation: what 01's measured roads leave open, and that the theorems have instances.
+-- Small roads, by computation: 02's barred pairs, what 01's measured roads leave open, and that the theorems have instances.
 use Prim.Native.Nat.{ℕ, zero, suc, _≤_, _<_}
 use native.Mathlib.Omega.{arith}
-use mathlib.Core.Bool.{true, false}
+use mathlib.Core.Bool.{Bool, true, false, _&&_}
 use mathlib.Core.List.{List, [], _∷_}
 use mathlib.Core.Path.{_≡_, refl, sym}
+use lib.Dec.{eqb, ltb}
 use lib.ListN.{length, getD}
 use Rattle.finite.specs.Below.{_⇒_, only, sum-below, all-below, any-below, sum-over}
 use Rattle.finite.proofs.Booleans.{clash}
-use Rattle.subsets.specs.Sets.{has}
+use Rattle.subsets.specs.Sets.{has, subset}
 use Rattle.subsets.specs.Inner.Masks.{keep}
 use Rattle.subsets.specs.Tree.{climb, under, part}
-use Rattle.subsets.specs.Costs.{none, some, provided}
+use Rattle.subsets.specs.Costs.{Cost, none, some, lesser, least-below, provided}
 use Rattle.subsets.specs.Inner.Totals.{_⊕_, total-below, charged}
 use Rattle.subsets.specs.Inner.Net as nets
 use Rattle.subsets.specs.Inner.Net.{charge}
@@ -18,8 +19,8 @@ use Rattle.sheet.specs.Instance.{Instance, Amounts, WellFormed}
 use Rattle.embedding.specs.Definition1.{member, Feasible, cost}
 use Rattle.embedding.specs.Limits.{Limits}
 use Rattle.embedding.specs.Road.{up, down, lower, by-way, edge-price, road}
-use Rattle.embedding.specs.Plan.{place, path-within, path, routes, demand-of, fits, admits, link-fits, fee, toll, weight, carried, link-keeps, in-range, cabinets-keep, links-keep, valid, cabinets-cost, links-cost, plan-cost, digit}
-use Rattle.embedding.specs.Splits.{stands, keeps, placeable}
+use Rattle.embedding.specs.Plan.{place, path-within, path, routes, demand-of, fits, unbarred, admits, link-fits, fee, toll, weight, carried, link-keeps, in-range, bars-keep, cabinets-keep, links-keep, valid, cabinets-cost, links-cost, plan-cost, digit, worth, cheapest}
+use Rattle.embedding.specs.Splits.{stands, keeps, placeable, weighed}
 use Rattle.embedding.specs.Inner.Charge.{leaving, entering, cabinet-charge, link-charge, net}
 use Rattle.embedding.proofs.Mappings.{plan-iff-mapping}
 
@@ -27,9 +28,9 @@ use Rattle.embedding.proofs.Mappings.{plan-iff-mapping}
 abbrev field : List (List ℕ) → ℕ → ℕ → ℕ
 field l k n = getD (getD l n []) k 0
 
--- the instance with these services, cabinets and streams
-abbrev instance : List (List ℕ) → List (List ℕ) → List (List ℕ) → Instance
-instance d c s = record {
+-- the instance with these services, cabinets and streams, and with these services barred from these cabinets
+abbrev barring : List (List ℕ) → List (List ℕ) → List (List ℕ) → (ℕ → ℕ → Bool) → Instance
+barring d c s b = record {
   r = length d;
   s = length c;
   q = length s;
@@ -44,14 +45,53 @@ instance d c s = record {
   from = field s 0;
   to = field s 1;
   load = field s 2;
+  barred = b;
 }
+
+-- the instance with these services, cabinets and streams, and with nothing barred
+abbrev instance : List (List ℕ) → List (List ℕ) → List (List ℕ) → Instance
+instance d c s = barring d c s (λ i c. false)
 
 -- the cabinets of M
 abbrev cabinets : List (List ℕ)
 cabinets = (65535 ∷ 4 ∷ 5 ∷ 0 ∷ 0 ∷ 0 ∷ 0 ∷ []) ∷ (0 ∷ 3 ∷ 1 ∷ 6 ∷ 2 ∷ 6 ∷ 1 ∷ []) ∷ (0 ∷ 3 ∷ 2 ∷ 2 ∷ 1 ∷ 6 ∷ 1 ∷ []) ∷ []
 
+-- M with these services barred from these cabinets
+abbrev M-barring : (ℕ → ℕ → Bool) → Instance
+M-barring b = barring ((2 ∷ []) ∷ (2 ∷ []) ∷ []) cabinets ((0 ∷ 1 ∷ 3 ∷ []) ∷ []) b
+
 abbrev M : Instance
-M = instance ((2 ∷ []) ∷ (2 ∷ []) ∷ []) cabinets ((0 ∷ 1 ∷ 3 ∷ []) ∷ [])
+M = M-barring (λ i c. false)
+
+-- ---- barred pairs
+
+-- M with service 0 barred from cabinet 0
+abbrev M-one : Instance
+M-one = M-barring (λ i c. eqb i 0 && eqb c 0)
+
+-- M with service 0 barred from every cabinet
+abbrev M-every : Instance
+M-every = M-barring (λ i c. eqb i 0 && ltb c 3)
+
+-- the cost of the cheapest plan, and the count of splits
+abbrev measured : Instance → Cost × ℕ
+measured I = (cheapest I, weighed I)
+
+-- 15 and 15 where one cabinet is barred; no plan and 12 where every one is
+measures-barred : measured M-one ∷ measured M-every ∷ [] ≡ (some 15, 15) ∷ (none, 12) ∷ []
+unfolding worth cheapest lesser least-below digit _⇒_ only sum-below all-below any-below sum-over member up down lower by-way edge-price path-within path routes demand-of fits unbarred admits fee weight carried link-fits link-keeps in-range bars-keep cabinets-keep links-keep valid cabinets-cost links-cost plan-cost provided has subset climb under part stands keeps placeable weighed
+measures-barred = refl
+
+-- where cabinet 0 is barred the plan (1,2) is valid at 15, and (0,1) is not valid
+plans-barred : worth M-one (place (1 ∷ 2 ∷ [])) ∷ worth M-one (place (0 ∷ 1 ∷ [])) ∷ [] ≡ some 15 ∷ none ∷ []
+unfolding worth _⇒_ only sum-below all-below sum-over member up down lower by-way edge-price path-within path routes demand-of fits fee weight carried link-fits link-keeps in-range bars-keep cabinets-keep links-keep valid cabinets-cost links-cost plan-cost provided
+plans-barred = refl
+
+-- and no mapping over (0,1) keeps the limits
+limits-barred : (ρ : ℕ → List ℕ) → Limits M-one (place (0 ∷ 1 ∷ [])) ρ → ⊥
+limits-barred ρ L = clash (L .bars 0 (omega arith))
+
+-- ---- what 01's roads leave open
 
 -- two streams of one pair count together: each fits the link above cabinet 1, both do not
 abbrev two-streams : Instance
@@ -68,12 +108,12 @@ late-child =
     ((65535 ∷ 0 ∷ 0 ∷ 0 ∷ 0 ∷ 0 ∷ 0 ∷ []) ∷ (0 ∷ 0 ∷ 0 ∷ 0 ∷ 0 ∷ 0 ∷ 0 ∷ []) ∷ (0 ∷ 0 ∷ 0 ∷ 0 ∷ 0 ∷ 0 ∷ 0 ∷ []) ∷ (1 ∷ 3 ∷ 0 ∷ 0 ∷ 0 ∷ 0 ∷ 0 ∷ []) ∷ []) []
 
 part-has-descendants : placeable late-child 2 1 ≡ true
-unfolding digit _⇒_ only sum-below all-below any-below member up down path-within path routes demand-of fits admits weight carried link-fits link-keeps has climb under part stands keeps placeable
+unfolding digit _⇒_ only sum-below all-below any-below member up down path-within path routes demand-of fits unbarred admits weight carried link-fits link-keeps has climb under part stands keeps placeable
 part-has-descendants = refl
 
 -- the charges of the plans (0,1), (1,0) and (2,0) for M
 charges-of-M : charge (net M) (λ d. true) 0 3 (place (0 ∷ 1 ∷ [])) ∷ charge (net M) (λ d. true) 0 3 (place (1 ∷ 0 ∷ [])) ∷ charge (net M) (λ d. true) 0 3 (place (2 ∷ 0 ∷ [])) ∷ [] ≡ some 15 ∷ some 18 ∷ none ∷ []
-unfolding only sum-below _⊕_ charged provided total-below has keep climb under nets.charge demand-of fits admits fee toll weight leaving entering link-fits cabinet-charge link-charge
+unfolding _⇒_ only sum-below all-below _⊕_ charged provided total-below has keep climb under nets.charge demand-of fits unbarred admits fee toll weight leaving entering link-fits cabinet-charge link-charge
 charges-of-M = refl
 
 -- ---- the theorems have instances: M is well formed, so by Definition 1 the plan (1,0) has a feasible mapping of cost 18, and (2,0) has none
@@ -107,6 +147,7 @@ M-well-formed = record {
   to-service = λ j k. only-stream j k .1;
   ends-differ = λ j k. only-stream j k .2;
   root-links = (refl, refl, refl, refl);
+  bars = λ i c e. clash (sym e);
 }
   where
     parents : (c : ℕ) → 0 < c → field cabinets 0 c < c
@@ -121,9 +162,9 @@ M-well-formed = record {
     only-stream (suc j) k = absurd (omega arith)
 
 feasible-on-M : (ρ : ℕ → List ℕ) × Feasible (road M) (place (1 ∷ 0 ∷ [])) ρ × Limits M (place (1 ∷ 0 ∷ [])) ρ × (cost (road M) (place (1 ∷ 0 ∷ [])) ρ ≡ 18)
-unfolding _⇒_ only sum-below all-below sum-over member up down lower by-way edge-price path-within path routes demand-of fits fee weight carried link-fits link-keeps in-range cabinets-keep links-keep valid cabinets-cost links-cost plan-cost
+unfolding _⇒_ only sum-below all-below sum-over member up down lower by-way edge-price path-within path routes demand-of fits fee weight carried link-fits link-keeps in-range bars-keep cabinets-keep links-keep valid cabinets-cost links-cost plan-cost
 feasible-on-M = plan-iff-mapping M M-well-formed (place (1 ∷ 0 ∷ [])) 18 .0 (refl, refl)
 
 none-on-M : (ρ : ℕ → List ℕ) → Feasible (road M) (place (2 ∷ 0 ∷ [])) ρ → Limits M (place (2 ∷ 0 ∷ [])) ρ → ⊥
-unfolding _⇒_ only sum-below all-below member up down path-within path routes demand-of fits weight carried link-fits link-keeps in-range cabinets-keep links-keep valid
+unfolding _⇒_ only sum-below all-below member up down path-within path routes demand-of fits weight carried link-fits link-keeps in-range bars-keep cabinets-keep links-keep valid
 none-on-M ρ F L = clash (sym (plan-iff-mapping M M-well-formed (place (2 ∷ 0 ∷ [])) (cost (road M) (place (2 ∷ 0 ∷ [])) ρ) .1 (ρ, F, L, refl) .0))

@@ -1,15 +1,15 @@
--- The charges of cabinets and links, summed over a part of the tree, are a number exactly when the placing keeps the part's capacities. Over the whole tree and for all services that number is the plan's cost.
+-- The charges of cabinets and links, summed over a part of the tree, are a number exactly when the placing uses no barred pair and keeps the part's capacities. Over the whole tree and for all services that number is the plan's cost.
 use Prim.Native.Nat.{ℕ, zero, suc, _+_, _≤_, _<_}
 use native.Mathlib.Omega.{arith}
 use mathlib.Core.Logic.{_≢_, _↔_}
 use mathlib.Core.Path.{_≡_, refl, sym, ap, ap₂, _∙_}
-use mathlib.Core.Bool.{Bool, true, false, _&&_, not, and-true, and-false}
+use mathlib.Core.Bool.{Bool, true, false, _&&_, not, and-true, and-false, and-assoc, and-comm}
 use lib.Dec.{eqb, ltb}
 use borrow.Author.Tests.{eqb-true, eqb-false, eq-eqb, ne-eqb, lt-ltb, le-ltb, not-true}
 use Rattle.finite.specs.Below.{_⇒_, only, sum-below, all-below}
-use Rattle.finite.proofs.Booleans.{both, both-l, both-r, implies}
+use Rattle.finite.proofs.Booleans.{both, both-l, both-r, same-test, implies, implied}
 use Rattle.finite.proofs.Sums.{sum-ext, sum-one, sum-swap}
-use Rattle.finite.proofs.Tests.{all-in, all-ext}
+use Rattle.finite.proofs.Tests.{all-in, all-at, all-ext, all-both}
 use Rattle.subsets.specs.Sets.{has}
 use Rattle.subsets.specs.Inner.Masks.{full}
 use Rattle.subsets.specs.Tree.{under}
@@ -19,7 +19,7 @@ use Rattle.subsets.specs.Inner.Net as nets
 use Rattle.subsets.specs.Inner.Net.{on, below, charge, Sits}
 use Rattle.subsets.proofs.Tree.{under-small}
 use Rattle.sheet.specs.Instance.{Instance, WellFormed}
-use Rattle.embedding.specs.Plan.{admits, link-fits, fee, toll, weight, link-keeps, in-range, cabinets-keep, links-keep, valid, cabinets-cost, plan-cost, worth}
+use Rattle.embedding.specs.Plan.{fits, unbarred, admits, link-fits, fee, toll, weight, link-keeps, in-range, bars-keep, cabinets-keep, links-keep, valid, cabinets-cost, plan-cost, worth}
 use Rattle.embedding.specs.Splits.{stands, keeps}
 use Rattle.embedding.specs.Inner.Charge.{cabinet-charge, link-charge, net}
 use Rattle.subsets.proofs.Sets.{has-keep, has-full}
@@ -139,7 +139,7 @@ module _ (I : Instance) (W : WellFormed I) (T : ℕ → Bool) (v : ℕ) (P : Par
     sits-test = all-in (I .r) (λ i. has x i ⇒ T (π i) && ltb (π i) (I .s)) (λ i k.
         implies (has x i) (T (π i) && ltb (π i) (I .s)) (λ e. both _ _ (sits i k e .0) (lt-ltb (π i) (I .s) (sits i k e .1))))
 
-    -- the charge of a placing on a part is its cost there if it keeps the capacities, else none
+    -- the charge of a placing on a part is its cost there if it uses no barred pair and keeps the capacities, else none
     pub part-charges : charge (net I) T v x π ≡ provided (keeps I T v x π) (part-cost I T v x π)
     unfolding nets.charge keeps part-cost Sat
     part-charges =
@@ -161,10 +161,28 @@ module _ (I : Instance) (W : WellFormed I) (π : ℕ → ℕ) (placed : InRange 
   on-all : (c i : ℕ) → i < I .r → has (full (I .r)) i && eqb (π i) c ≡ eqb (π i) c
   on-all c i k = ap (λ (t : Bool). t && eqb (π i) c) (has-full (I .r) i k)
 
-  -- every cabinet admits what a plan puts there exactly when none is overfull
-  admits-all : all-below (I .s) (λ c. admits I c (λ i. eqb (π i) c)) ≡ cabinets-keep I π
+  -- no cabinet holds a service that is barred from it exactly when no service is barred from its cabinet
+  unbarred-all : all-below (I .s) (λ c. unbarred I c (λ i. eqb (π i) c)) ≡ bars-keep I π
+  unfolding unbarred bars-keep
+  unbarred-all =
+      same-test (all-below (I .s) (λ c. all-below (I .r) (λ i. eqb (π i) c ⇒ not (I .barred i c)))) (all-below (I .r) (λ i. not (I .barred i (π i))))
+      (λ h. all-in (I .r) (λ i. not (I .barred i (π i))) (λ i k.
+      implied (eqb (π i) (π i)) (not (I .barred i (π i)))
+      (all-at (I .r) (λ j. eqb (π j) (π i) ⇒ not (I .barred j (π i)))
+      (all-at (I .s) (λ c. all-below (I .r) (λ j. eqb (π j) c ⇒ not (I .barred j c))) h (π i) (placed i k)) i k)
+      (eq-eqb (π i) (π i) refl)))
+      (λ h. all-in (I .s) (λ c. all-below (I .r) (λ i. eqb (π i) c ⇒ not (I .barred i c))) (λ c _.
+      all-in (I .r) (λ i. eqb (π i) c ⇒ not (I .barred i c)) (λ i k.
+      implies (eqb (π i) c) (not (I .barred i c)) (λ e.
+      ap (λ (z : ℕ). not (I .barred i z)) (sym (eqb-true (π i) c e)) ∙ all-at (I .r) (λ i. not (I .barred i (π i))) h i k))))
+
+  -- every cabinet admits what a plan puts there exactly when the plan uses no barred pair and no cabinet is overfull
+  admits-all : all-below (I .s) (λ c. admits I c (λ i. eqb (π i) c)) ≡ bars-keep I π && cabinets-keep I π
   unfolding admits cabinets-keep
-  admits-all = refl
+  admits-all =
+      all-both (I .s) (λ c. fits I c (λ i. eqb (π i) c)) (λ c. unbarred I c (λ i. eqb (π i) c))
+      ∙ and-comm (cabinets-keep I π) (all-below (I .s) (λ c. unbarred I c (λ i. eqb (π i) c)))
+      ∙ ap (λ (t : Bool). t && cabinets-keep I π) unbarred-all
 
   keeps-all : keeps I everywhere 0 (full (I .r)) π ≡ valid I π
   unfolding keeps valid in-range links-keep _⇒_
@@ -172,7 +190,8 @@ module _ (I : Instance) (W : WellFormed I) (π : ℕ → ℕ) (placed : InRange 
       ap₂ _&&_ (all-ext (I .r) _ _ (λ i k. ap (λ (t : Bool). t ⇒ ltb (π i) (I .s)) (has-full (I .r) i k)))
       (ap₂ _&&_
       (all-ext (I .s) _ _ (λ c k. admits-ext I W (λ i. has (full (I .r)) i && eqb (π i) c) (λ i. eqb (π i) c) (on-all c) c) ∙ admits-all)
-      (all-ext (I .s) _ _ (λ c k. ap₂ _⇒_ (and-true (ltb 0 c)) (link-keeps-ext I W (stands I (full (I .r)) 0 π) π stands-all c))))
+      (all-ext (I .s) _ _ (λ c k. ap₂ _⇒_ (and-true (ltb 0 c)) (link-keeps-ext I W (stands I (full (I .r)) 0 π) π stands-all c)))
+      ∙ and-assoc (bars-keep I π) (cabinets-keep I π) (links-keep I π))
 
   -- only the cabinet where it is charges a service
   seat : (i c : ℕ) → only (eqb (π i) c) (fee I c i) ≡ only (eqb c (π i)) (fee I (π i) i)

@@ -4,10 +4,10 @@ use native.Mathlib.Nat.{zero-add}
 use native.Mathlib.Omega.{arith}
 use mathlib.Core.Logic.{_↔_, _⊎_, inl, inr}
 use mathlib.Core.Path.{_≡_, refl, sym, ap, ap₂, _∙_, subst}
-use mathlib.Core.Bool.{true}
+use mathlib.Core.Bool.{true, false, not}
 use mathlib.Core.List.{List}
 use lib.Dec.{eqb, ltb, leb}
-use borrow.Author.Tests.{ltb-true, leb-true, lt-ltb, le-leb}
+use borrow.Author.Tests.{ltb-true, leb-true, lt-ltb, le-leb, not-true}
 use Rattle.finite.specs.Below.{_⇒_, only, sum-below, sum-over}
 use Rattle.finite.proofs.Booleans.{both, both-l, both-r, implies, implied}
 use Rattle.finite.proofs.Sums.{sum-ext, sum-over-ext}
@@ -16,7 +16,7 @@ use Rattle.sheet.specs.Instance.{Instance, WellFormed}
 use Rattle.embedding.specs.Definition1.{member, SimplePath, node-load, edge-load, Feasible, cost}
 use Rattle.embedding.specs.Limits.{Limits}
 use Rattle.embedding.specs.Road.{up, down, lower, by-way, edge-price, tree, road}
-use Rattle.embedding.specs.Plan.{routes, demand-of, carried, link-keeps, in-range, cabinets-keep, links-keep, valid, links-cost, plan-cost}
+use Rattle.embedding.specs.Plan.{routes, demand-of, carried, link-keeps, in-range, bars-keep, cabinets-keep, links-keep, valid, links-cost, plan-cost}
 use Rattle.embedding.proofs.Edges.{which, lower-pos, edge-lower, up-edge, down-edge, at-up, at-down}
 use Rattle.embedding.proofs.Paths.{path-simple, path-only}
 use Rattle.embedding.proofs.Feasible.{sums-suffice}
@@ -26,9 +26,9 @@ use Rattle.embedding.proofs.Reckoning.{demand-sum, cabinets-by-demand, 
 abbrev pub InRange : Instance → (ℕ → ℕ) → Type 0
 InRange I π = (i : ℕ) → i < I .r → π i < I .s
 
--- What validity tests beyond Definition 1; the limits must give it. There is nothing yet.
+-- what validity tests beyond Definition 1, and the limits must give: the test of the bars
 unfoldable pub Beyond : Instance → (ℕ → ℕ) → Type 0
-Beyond I π = Unit {0}
+Beyond I π = bars-keep I π ≡ true
 
 module _ (I : Instance) where
   -- ---- the tests of a plan, as facts
@@ -39,6 +39,14 @@ module _ (I : Instance) where
   range-test π = (
     λ h i k. ltb-true (π i) (I .s) (all-at (I .r) (λ i. ltb (π i) (I .s)) h i k),
     λ p. all-in (I .r) (λ i. ltb (π i) (I .s)) (λ i k. lt-ltb (π i) (I .s) (p i k)),
+  )
+
+  -- the test of the bars is that no service is barred from its cabinet
+  pub bars-test : (π : ℕ → ℕ) → (bars-keep I π ≡ true) ↔ ((i : ℕ) → i < I .r → I .barred i (π i) ≡ false)
+  unfolding bars-keep
+  bars-test π = (
+    λ h i k. not-true (I .barred i (π i)) (all-at (I .r) (λ i. not (I .barred i (π i))) h i k),
+    λ p. all-in (I .r) (λ i. not (I .barred i (π i))) (λ i k. ap not (p i k)),
   )
 
   -- the test of the cabinets is the demand on each of them
@@ -62,12 +70,15 @@ module _ (I : Instance) where
         ∙ both _ _ (le-leb _ _ (p c (ltb-true 0 c z) k .0)) (le-leb _ _ (p c (ltb-true 0 c z) k .1)))),
   )
 
-  -- a plan is valid when it passes the three tests, and what is tested beyond Definition 1
+  -- a plan is valid when it passes the tests of Definition 1, and what is tested beyond it
   pub valid-test : (π : ℕ → ℕ) → (valid I π ≡ true) ↔ ((in-range I π ≡ true) × (cabinets-keep I π ≡ true) × (links-keep I π ≡ true) × Beyond I π)
   unfolding valid Beyond
   valid-test π = (
-    λ h. (both-l (in-range I π) _ h, both-l (cabinets-keep I π) (links-keep I π) (both-r (in-range I π) _ h), both-r (cabinets-keep I π) (links-keep I π) (both-r (in-range I π) _ h), tt),
-    λ p. both (in-range I π) _ (p .0) (both (cabinets-keep I π) (links-keep I π) (p .1) (p .2)),
+    λ h.
+        let k = both-r (in-range I π) _ h in
+        let l = both-r (bars-keep I π) _ k in
+        (both-l (in-range I π) _ h, both-l (cabinets-keep I π) (links-keep I π) l, both-r (cabinets-keep I π) (links-keep I π) l, both-l (bars-keep I π) _ k),
+    λ p. both (in-range I π) _ (p .0) (both (bars-keep I π) _ (p .3) (both (cabinets-keep I π) (links-keep I π) (p .1) (p .2))),
   )
 
   -- ---- the sums of Definition 1 at one amount
@@ -111,13 +122,13 @@ module _ (I : Instance) (W : WellFormed I) where
 
   -- a valid plan keeps the limits along the computed paths
   pub valid-limits : (π : ℕ → ℕ) → valid I π ≡ true → Limits I π (routes I π)
-  unfolding Limits Beyond
-  valid-limits π v = valid-test I π .0 v .3
+  unfolding Beyond
+  valid-limits π v = record { bars = bars-test I π .0 (valid-test I π .0 v .3) }
 
   -- a feasible mapping that keeps the limits passes what validity tests beyond Definition 1
   pub limits-beyond : (π : ℕ → ℕ) (ρ : ℕ → List ℕ) → Feasible (road I) π ρ → Limits I π ρ → Beyond I π
-  unfolding Limits Beyond
-  limits-beyond π ρ F L = L
+  unfolding Beyond
+  limits-beyond π ρ F L = bars-test I π .1 (L .bars)
 
   -- ---- validity and feasibility
 

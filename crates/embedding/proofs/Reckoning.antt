@@ -1,16 +1,19 @@
--- What cabinets and links admit and charge, reckoned with sums of demands and loads. A proof that needs the numbers behind these names cites a law of this page.
-use Prim.Native.Nat.{ℕ, _+_, _*_}
+-- What cabinets and links admit and charge, reckoned with sums of demands and loads, and with a number whose digits are the services barred from a cabinet. A proof that needs the numbers behind these names cites a law of this page.
+use Prim.Native.Nat.{ℕ, _+_, _*_, _<_}
 use native.Mathlib.Omega.{arith}
 use mathlib.Core.Path.{_≡_, refl, sym, ap, ap₂, _∙_}
-use mathlib.Core.Bool.{Bool, true, false, _&&_}
+use mathlib.Core.Bool.{Bool, true, false, _&&_, not}
+use lib.Bits.{bitAnd, and-le-l, and-le-r}
 use lib.Dec.{eqb, leb}
-use Rattle.finite.specs.Below.{only, sum-below, all-below}
+use Rattle.finite.specs.Below.{_⇒_, only, sum-below, all-below}
 use Rattle.finite.proofs.Sums.{sum-ext, sum-mul}
 use Rattle.finite.proofs.Tests.{all-ext}
 use Rattle.subsets.specs.Sets.{has}
 use Rattle.subsets.specs.Costs.{provided}
+use Rattle.subsets.specs.Inner.Masks.{full}
+use Rattle.subsets.proofs.Sets.{full-lt, has-and-full, apart-and}
 use Rattle.sheet.specs.Instance.{Instance}
-use Rattle.embedding.specs.Plan.{demand-of, fits, admits, link-fits, fee, toll, weight, cabinets-keep, cabinets-cost}
+use Rattle.embedding.specs.Plan.{demand-of, fits, unbarred, admits, link-fits, fee, toll, weight, cabinets-keep, cabinets-cost}
 use Rattle.embedding.specs.Inner.Charge.{leaving, entering, cabinet-charge, link-charge}
 
 -- a number that a test lets through, and a factor
@@ -32,10 +35,10 @@ module _ (I : Instance) where
   unfolding fits
   fits-by-demand c x = refl
 
-  -- what a cabinet admits, by demand
-  pub admits-by-demand : (c : ℕ) (x : ℕ → Bool) → admits I c x ≡ leb (demand-of I x) (I .capacity c)
+  -- what a cabinet admits, by demand and bars
+  pub admits-by-demand : (c : ℕ) (x : ℕ → Bool) → admits I c x ≡ leb (demand-of I x) (I .capacity c) && unbarred I c x
   unfolding admits
-  admits-by-demand = fits-by-demand
+  admits-by-demand c x = ap (λ (t : Bool). t && unbarred I c x) (fits-by-demand c x)
 
   -- the test of the cabinets, by the demand on each of them
   pub cabinets-by-demand : (π : ℕ → ℕ) → cabinets-keep I π ≡ all-below (I .s) (λ c. leb (demand-of I (λ i. eqb (π i) c)) (I .capacity c))
@@ -52,10 +55,27 @@ module _ (I : Instance) where
   unfolding fee demand-of
   fees-by-demand c x = sym (sum-mul (I .r) (λ i. only (x i) (I .demand i)) (I .price c) ∙ sum-ext (I .r) _ _ (λ i k. only-mul (x i) (I .demand i) (I .price c)))
 
-  -- what a cabinet charges for a set, by demand
-  pub charge-by-demand : (c x : ℕ) → cabinet-charge I c x ≡ provided (leb (demand-of I (has x)) (I .capacity c)) (demand-of I (has x) * I .price c)
+  -- what a cabinet charges for a set, by demand and bars
+  pub charge-by-demand : (c x : ℕ) → cabinet-charge I c x ≡ provided (leb (demand-of I (has x)) (I .capacity c) && unbarred I c (has x)) (demand-of I (has x) * I .price c)
   unfolding cabinet-charge
   charge-by-demand c x = ap₂ provided (admits-by-demand c (has x)) (fees-by-demand c (has x))
+
+  -- ---- cabinets, where the digits of the number w are the services barred from cabinet c
+  module _ (c w : ℕ) (word : (i : ℕ) → i < I .r → has w i ≡ I .barred i c) where
+    -- none of a set is barred exactly when those of its services that are there and w have no digit in common
+    unbarred-by-digits : (x : ℕ) → unbarred I c (has x) ≡ eqb (bitAnd (bitAnd x (full (I .r))) w) 0
+    unfolding unbarred
+    unbarred-by-digits x =
+        let y = bitAnd x (full (I .r)) in
+        all-ext (I .r) _ _ (λ i k. ap₂ (λ (s t : Bool). s ⇒ not t) (sym (has-and-full (I .r) x i k)) (sym (word i k)))
+        ∙ apart-and (I .r) y w (omega (arith, and-le-l y w, and-le-r x (full (I .r)), full-lt (I .r)))
+
+    -- what a cabinet charges for a set, by demand and digits
+    pub charge-by-digits : (x : ℕ) → cabinet-charge I c x
+        ≡ provided (leb (demand-of I (has x)) (I .capacity c) && eqb (bitAnd (bitAnd x (full (I .r))) w) 0) (demand-of I (has x) * I .price c)
+    charge-by-digits x =
+        charge-by-demand c x
+        ∙ ap (λ (t : Bool). provided (leb (demand-of I (has x)) (I .capacity c) && t) (demand-of I (has x) * I .price c)) (unbarred-by-digits x)
 
   -- ---- links
 

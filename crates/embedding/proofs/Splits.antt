@@ -143,7 +143,7 @@ module _ (I : Instance) (W : WellFormed I) where
   part-before : (c : ℕ) → 0 < c → c < I .s → Part I (before (I .parent) c) (I .parent c)
   part-before c z k = part-part (I .parent c) c (omega (arith, W .parents c z))
 
-  -- a set can be placed on the part before c exactly when some placing, of any kind, keeps its capacities
+  -- a set can be placed on the part before c exactly when some placing, of any kind, uses no barred pair and keeps its capacities
   pub placeable-iff : (c a : ℕ) → 0 < c → c < I .s → (placeable I c a ≡ true) ↔ ((π : ℕ → ℕ) × (keeps I (before (I .parent) c) (I .parent c) a π ≡ true))
   unfolding placeable Keeping
   placeable-iff c a z k = tried (before (I .parent) c) (I .parent c) a (part-before c z k)

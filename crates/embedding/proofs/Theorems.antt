@@ -97,7 +97,7 @@ module _ (I : Instance) (W : WellFormed I) where
       (charge (net I) (λ d. true) 0 (full (I .r)) π ≡ some k) ↔ ((valid I π ≡ true) × (plan-cost I π ≡ k))
   charges π h = charged.charges-iff I W π (range-test I π .0 h)
 
-  -- A set can be placed on the part before c exactly when some placing of it there, of any kind, keeps the capacities.
+  -- A set can be placed on the part before c exactly when some placing of it there, of any kind, uses no barred pair and keeps the capacities.
   pub placeable-iff : (c a : ℕ) → 0 < c → c < I .s → (placeable I c a ≡ true) ↔ ((π : ℕ → ℕ) × (keeps I (before (I .parent) c) (I .parent c) a π ≡ true))
   placeable-iff = splits.placeable-iff I W
 

@@ -1,8 +1,11 @@
--- What a mapping must keep beside Definition 1. There is nothing yet.
-use Prim.Native.Nat.{ℕ}
+-- What a mapping must keep beside Definition 1.
+use Prim.Native.Nat.{ℕ, _<_}
+use mathlib.Core.Path.{_≡_}
+use mathlib.Core.Bool.{false}
 use mathlib.Core.List.{List}
 use Rattle.sheet.specs.Instance.{Instance}
 
 -- the services are put by `place`, the streams run along `path`
-unfoldable pub Limits : Instance → (ℕ → ℕ) → (ℕ → List ℕ) → Type 0
-Limits I place path = Unit {0}
+pub record Limits (I : Instance) (place : ℕ → ℕ) (path : ℕ → List ℕ) : Type 0 where
+  -- 02 (a): it uses no barred pair, so no service is barred from the cabinet that it is put on
+  pub bars : (i : ℕ) → i < I .r → I .barred i (place i) ≡ false

@@ -1,6 +1,6 @@
--- 01, "A valid plan and its cost". A plan π gives each service i the cabinet π i.
+-- 01, "A valid plan and its cost", with the barred pairs of 02 (a). A plan π gives each service i the cabinet π i.
 use Prim.Native.Nat.{ℕ, zero, suc, _+_, _*_, _/_, _%_, _^_}
-use mathlib.Core.Bool.{Bool, true, false, _&&_}
+use mathlib.Core.Bool.{Bool, true, false, _&&_, not}
 use mathlib.Core.List.{List, [], _∷_, _++_}
 use lib.Dec.{eqb, ltb, leb}
 use lib.ListN.{getD}
@@ -45,9 +45,13 @@ module _ (I : Instance) where
   unfoldable pub fits : ℕ → (ℕ → Bool) → Bool
   fits c x = leb (demand-of x) (I .capacity c)
 
-  -- cabinet c admits the services for which x holds: it has room for them
+  -- none of the services for which x holds is barred from cabinet c
+  unfoldable pub unbarred : ℕ → (ℕ → Bool) → Bool
+  unbarred c x = all-below (I .r) (λ i. x i ⇒ not (I .barred i c))
+
+  -- cabinet c admits the services for which x holds: it has room for them, and none of them is barred from it
   unfoldable pub admits : ℕ → (ℕ → Bool) → Bool
-  admits c x = fits c x
+  admits c x = fits c x && unbarred c x
 
   -- the link above c lets through m upwards and n downwards: each is at most the capacity of its direction
   unfoldable pub link-fits : ℕ → ℕ → ℕ → Bool
@@ -77,6 +81,10 @@ module _ (I : Instance) where
   unfoldable pub in-range : (ℕ → ℕ) → Bool
   in-range π = all-below (I .r) (λ i. ltb (π i) (I .s))
 
+  -- no service sits on a cabinet that it is barred from
+  unfoldable pub bars-keep : (ℕ → ℕ) → Bool
+  bars-keep π = all-below (I .r) (λ i. not (I .barred i (π i)))
+
   -- no cabinet is overfull
   unfoldable pub cabinets-keep : (ℕ → ℕ) → Bool
   cabinets-keep π = all-below (I .s) (λ c. fits c (λ i. eqb (π i) c))
@@ -85,9 +93,9 @@ module _ (I : Instance) where
   unfoldable pub links-keep : (ℕ → ℕ) → Bool
   links-keep π = all-below (I .s) (λ c. ltb 0 c ⇒ link-keeps π c)
 
-  -- a plan is valid when it passes the three tests; source document 000 says feasible
+  -- a plan is valid when it passes the four tests; source document 000, which bars nothing, says feasible
   unfoldable pub valid : (ℕ → ℕ) → Bool
-  valid π = in-range π && (cabinets-keep π && links-keep π)
+  valid π = in-range π && (bars-keep π && (cabinets-keep π && links-keep π))
 
   -- what the cabinets charge for the services: for each service, demand × the price of its cabinet
   unfoldable pub cabinets-cost : (ℕ → ℕ) → ℕ

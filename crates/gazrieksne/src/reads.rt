@@ -1,9 +1,11 @@
 // The entry points of the reader.
 ghost use mathlib.Core.Path.{_≡_};
 ghost use Rattle.sheet.specs.Reading.{reading, number};
-ghost use Rattle.gazrieksne.specs.Reads.{read-counts, service-of, service-flag, service-words, cabinet-of, cabinet-flag, cabinet-words, stream-of, stream-flag, stream-words};
+ghost use Rattle.gazrieksne.specs.Reads.{read-counts, service-of, service-flag, service-words, cabinet-of, cabinet-flag, cabinet-words, stream-of, stream-flag, stream-words, pair-of, pair-flag, pair-words};
 use sheet::Cabinet;
 use sheet::CabinetRecord;
+use sheet::Pair;
+use sheet::PairRecord;
 use sheet::Reading;
 use sheet::Refusal;
 use sheet::Service;
@@ -18,9 +20,9 @@ pub(crate) fn wide(n: u16) -> u64
     n as u64
 }
 
-// Group, services, cabinets and streams; the refusal's number, 0 for none.
+// Group, services, cabinets, streams and barred pairs; the refusal's number, 0 for none.
 #[no_mangle]
-pub extern "C" fn gz_read(bytes: &[u8], counts: &mut [u64; 4]) -> u64
+pub extern "C" fn gz_read(bytes: &[u8], counts: &mut [u64; 5]) -> u64
     ensures number { λ r. ⌜ r ≡ number (reading (now (bytes .entry))) ⌝ }
     ensures counts { λ r. ⌜ now (counts .exit) ≡ read-counts (reading (now (bytes .entry))) ⌝ }
 {
@@ -31,11 +33,12 @@ pub extern "C" fn gz_read(bytes: &[u8], counts: &mut [u64; 4]) -> u64
                 sheet.services() as u64,
                 sheet.cabinets() as u64,
                 sheet.streams() as u64,
+                sheet.pairs() as u64,
             ];
             0
         }
         Reading::Refused(refusal) => {
-            *counts = [refusal.group(), 0, 0, 0];
+            *counts = [refusal.group(), 0, 0, 0, 0];
             wide(refusal.number())
         }
     }
@@ -66,6 +69,15 @@ fn find_stream(bytes: &[u8], number: usize) -> StreamRecord
         return StreamRecord::Missing;
     };
     sheet.stream(bytes, number)
+}
+
+fn find_pair(bytes: &[u8], number: usize) -> PairRecord
+    ensures { λ r. ⌜ r ≡ pair-of (reading (now (bytes .entry))) (now (bytes .entry)) number ⌝ }
+{
+    let Reading::Accepted(sheet) = sheet::read(bytes) else {
+        return PairRecord::Missing;
+    };
+    sheet.pair(bytes, number)
 }
 
 // 1 and the demand, or 0 and the record as it was.
@@ -112,5 +124,18 @@ pub extern "C" fn gz_stream(bytes: &[u8], number: usize, words: &mut [u64; 3]) -
         return 0;
     };
     *words = [t.from as u64, t.to as u64, t.demand];
+    1
+}
+
+// 1 and the pair's two words, or 0 and the record as it was.
+#[no_mangle]
+pub extern "C" fn gz_barred(bytes: &[u8], number: usize, words: &mut [u64; 2]) -> u64
+    ensures flag { λ r. ⌜ r ≡ pair-flag (pair-of (reading (now (bytes .entry))) (now (bytes .entry)) number) ⌝ }
+    ensures written { λ r. ⌜ now (words .exit) ≡ pair-words (pair-of (reading (now (bytes .entry))) (now (bytes .entry)) number) (now (words .entry)) ⌝ }
+{
+    let PairRecord::Given(p) = find_pair(bytes, number) else {
+        return 0;
+    };
+    *words = [p.service as u64, p.cabinet as u64];
     1
 }

@@ -32,12 +32,12 @@ use Rattle.embedding.specs.Plan as plans
 use Rattle.embedding.specs.Plan.{place, demand-of, in-range, valid, plan-cost, worth, cheapest}
 use Rattle.embedding.specs.Inner.Charge.{leaving, entering, cabinet-charge, link-charge, net}
 use Rattle.embedding.specs.Splits.{weighed}
-use Rattle.embedding.proofs.Reckoning.{demand-sum, charge-by-demand, charge-by-flows}
+use Rattle.embedding.proofs.Reckoning.{demand-sum, charge-by-digits, charge-by-flows}
 use Rattle.embedding.proofs.Mappings.{range-test}
 use Rattle.embedding.proofs.Services.{worth-ext}
 use Rattle.embedding.proofs.Theorems.{charges, weighed-rows}
-use Rattle.rows.specs.Nodes as records
-use Rattle.rows.specs.Nodes.{field, parent-of, record-of}
+use Rattle.rows.specs.Cabinets as cabinets
+use Rattle.rows.specs.Cabinets.{field, parent-of, own-of, link-of}
 use Rattle.core.specs.Sound as sounds
 use Rattle.core.specs.Sound.{amounts, falling, between, sound}
 use Rattle.core.specs.Sums as sums
@@ -53,6 +53,7 @@ use Rattle.planner.specs.Answers.{entries, solved}
 use Rattle.planner.specs.Lent.{OutputAfter}
 use Rattle.planner.specs.Inner.Tables.{cost-entry, choice-entry, Filled}
 use Rattle.records.specs.Told.{told}
+use Rattle.records.proofs.Bars.{set-barred, bars-there}
 use Rattle.planner.specs.Inner.Decided.{planned-of}
 use Rattle.planner.proofs.Solving.{root-cheapest}
 
@@ -113,6 +114,7 @@ module _ (k : Records) (passes : sound k ≡ true) where
       field-in (k .cabinets) (k .«down_capacity») 0 (G .some-cabinet) ∙ G .root .2,
       field-in (k .cabinets) (k .«down_price») 0 (G .some-cabinet) ∙ G .root .3,
     );
+    bars = bars-there k;
   }
 
   same-demand : (x : ℕ) → demand-in (k .demand) (k .services) x ≡ demand-of (told k) (has x)
@@ -130,12 +132,14 @@ module _ (k : Records) (passes : sound k ≡ true) where
       sum-ext (k .streams) _ _ (λ j l. rw (field-in (k .streams) (k .from) j l, field-in (k .streams) (k .to) j l, field-in (k .streams) (k .load) j l) refl)
 
   same-node : (c x : ℕ) → netted k .node c x ≡ cabinet-charge (told k) c x
-  unfolding told records.record-of
-  same-node c x = ap (own-cost (record-of k c)) (same-demand x) ∙ sym (charge-by-demand (told k) c x)
+  unfolding told cabinets.own-of
+  same-node c x =
+      ap (own-cost (own-of k c) (bitAnd x (full (k .services)))) (same-demand x)
+      ∙ sym (charge-by-digits (told k) c (field (k .cabinets) (k .barred) c) (λ i l. set-barred k i c l) x)
 
   same-link : (c x : ℕ) → netted k .link c x ≡ link-charge (told k) c x
-  unfolding told records.record-of
-  same-link c x = ap₂ (λ (a b : ℕ). link-cost (record-of k c) a b) (same-out x) (same-in x) ∙ sym (charge-by-flows (told k) c x)
+  unfolding told cabinets.link-of
+  same-link c x = ap₂ (λ (a b : ℕ). link-cost (link-of k c) a b) (same-out x) (same-in x) ∙ sym (charge-by-flows (told k) c x)
 
   -- Their net is the instance's.
   pub same-net : netted k ≡ net (told k)

@@ -9,12 +9,12 @@ use lib.Dec.{ltb}
 use lib.ListN.{length, take, drop, replicate, length-append, take-append-drop, List·getD-append}
 use lib.Seq.{take-at}
 use borrow.Author.Tests.{lt-ltb, le-ltb, ne-eqb}
-use Rattle.finite.proofs.Booleans.{either-r, neither}
+use Rattle.finite.proofs.Booleans.{clash, either-r, neither}
 use Rattle.subsets.specs.Costs.{Cost, none, some}
 use Rattle.sheet.specs.Limits.{max-services}
 use Rattle.sheet.specs.Instance.{Instance, WellFormed}
-use Rattle.sheet.specs.Refusals.{first-applying, refusal, number-of}
-use Rattle.sheet.specs.Reading.{reading}
+use Rattle.sheet.specs.Refusals.{one-of, first-applying, refusal, number-of}
+use Rattle.sheet.specs.Reading.{reader-numbers, reading}
 use Rattle.sheet.specs.declared.Refusal.{Refusal}
 use Rattle.sheet.specs.declared.Reading.the-variants as readers
 use Rattle.sheet.proofs.Groups.{reading-number}
@@ -79,4 +79,4 @@ output-lifted I W (Refused f n) output part e s = ap (λ (l : List ℕ). l ++ dr
 
 -- with a refusal that the reader gave the tables are not used
 pub handed-on : (I : Instance) (bytes : List ℕ) (f : Refusal) (table : List ℕ) → reading bytes ≡ readers.Refused f → table ≡ table-after I (Refused f 0) table
-handed-on I bytes f table e = rw (ne-eqb (number-of f) 12 (λ q. omega (arith, reading-number bytes f e .1)))
+handed-on I bytes f table e = rw (ne-eqb (number-of f) 12 (λ q. clash (sym (reading-number bytes f e) ∙ ap (one-of reader-numbers) q)))

@@ -57,7 +57,7 @@ lent-first I output costs choices = go (first-applying (lender-rules I output co
     road = solved-number (cheapest I) (weighed I)
 
     go : (m : ℕ) → first-applying (lender-rules I output costs choices) ≡ m → number (lent m I) ≡ first-applying (lender-rules I output costs choices ++ road-rules I)
-    go zero e = road ∙ sym (first-none 11 (lender-rules I output costs choices) (road-rules I) refl e)
+    go zero e = road ∙ sym (first-none (lender-rules I output costs choices) (road-rules I) refl e)
     go (suc n) e = number-refusal (suc n) ∙ sym (first-some (lender-rules I output costs choices) (road-rules I) n e)
 
 -- the number of an answer is that of the first rule that applies

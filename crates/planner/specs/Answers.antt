@@ -60,6 +60,10 @@ abbrev pub all-rules : List ℕ → ℕ → ℕ → ℕ → List Rule
 all-rules bytes output costs choices =
     reader.rules bytes ++ (lender-rules (instance bytes) output costs choices ++ road-rules (instance bytes))
 
+-- their numbers
+abbrev pub plan-numbers : List ℕ
+plan-numbers = reader.reader-numbers ++ (10 ∷ 11 ∷ 12 ∷ [])
+
 -- with memory enough: the cheapest plan's cost, or 12 where there is none; and the count of splits in both cases
 abbrev pub solved : Cost → ℕ → Planned
 solved none n = Refused (refusal 12) n

@@ -1,5 +1,7 @@
 // Runs the reader on sheets made from road M and prints the refusal of each, 0 for an accepted sheet.
 
+mod pairs; // pairs.rt: sheets with a fourth block
+
 // Road M.
 const M: [u8; 68] = [
     2,
@@ -338,4 +340,5 @@ fn main() {
     several();
     truncated();
     long();
+    pairs::run();
 }

@@ -14,7 +14,7 @@ use Rattle.sheet.specs.Limits.{max-services, max-cabinets, max-streams}
 use Rattle.sheet.specs.Instance as sheets
 use Rattle.sheet.specs.Instance.{Instance, instance}
 use Rattle.records.specs.declared.Records.{Records}
-use Rattle.records.specs.Inner.Loading.{Column, Loading}
+use Rattle.records.specs.Inner.Loading.{Column, Loading, barring}
 use Rattle.records.specs.Told.{told, blank}
 
 module _ (places : ℕ) (f : ℕ → ℕ) where
@@ -58,10 +58,11 @@ module _ (bytes : List ℕ) where
   unfolding sheets.instance
   no-cabinet k h = (only-past _ k _ h, only-past _ k _ h, only-past _ k _ h, only-past _ k _ h, only-past _ k _ h, only-past _ k _ h, only-past _ k _ h)
 
-  -- all records loaded
-  pub loaded : (x : Records) → Loading (instance bytes) (instance bytes .r) (instance bytes .s) (instance bytes .q) x → told x ≡ instance bytes
+  -- all records loaded, and what is barred
+  pub loaded : (x : Records) → Loading (instance bytes) (instance bytes .r) (instance bytes .s) (instance bytes .q) x
+      → ((i c : ℕ) → told x .barred i c ≡ instance bytes .barred i c) → told x ≡ instance bytes
   unfolding told
-  loaded x L =
+  loaded x L bars =
       let I = instance bytes in
       let r = L .services in
       let s = L .cabinets in
@@ -77,6 +78,7 @@ module _ (bytes : List ℕ) where
       let from = column-all max-streams (I .from) (x .streams) (I .q) (x .from) q (λ j h. no-stream j h .0) (L .from) in
       let to = column-all max-streams (I .to) (x .streams) (I .q) (x .to) q (λ j h. no-stream j h .1) (L .to) in
       let load = column-all max-streams (I .load) (x .streams) (I .q) (x .load) q (λ j h. no-stream j h .2) (L .load) in
+      let barred = fun-ext (λ i. fun-ext (λ c. bars i c)) in
       λ i. record {
         r = r i;
         s = s i;
@@ -92,7 +94,28 @@ module _ (bytes : List ℕ) where
         from = from i;
         to = to i;
         load = load i;
+        barred = barred i;
       }
+
+-- whatever is barred, the rest stays loaded
+pub with-barred : {I : Instance} {i c j : ℕ} {x : Records} → Loading I i c j x → (sets : List ℕ) → Loading I i c j (barring x sets)
+with-barred L sets =
+    record {
+      services = L .services;
+      cabinets = L .cabinets;
+      streams = L .streams;
+      demand = L .demand;
+      parent = L .parent;
+      capacity = L .capacity;
+      price = L .price;
+      up-capacity = L .up-capacity;
+      up-price = L .up-price;
+      down-capacity = L .down-capacity;
+      down-price = L .down-price;
+      from = L .from;
+      to = L .to;
+      load = L .load;
+    }
 
 -- nothing is loaded yet
 pub none-loaded : (I : Instance) (r s q : ℕ) → r ≡ I .r → s ≡ I .s → q ≡ I .q → Loading I 0 0 0 (blank r s q)

@@ -1,2 +1,3 @@
--- What the proofs of the code share.
+-- What callers may rely on, and what the proofs of the code share.
 mod Columns
+pub mod Bars

@@ -3,6 +3,7 @@ use mathlib.Core.Path.{_≡_}
 use mathlib.Core.List.{List}
 use Prim.Native.Nat.{ℕ}
 use lib.ListN.{getD, replicate}
+use Rattle.subsets.specs.Sets.{has}
 use Rattle.sheet.specs.Limits.{max-services, max-cabinets, max-streams}
 use Rattle.sheet.specs.Instance.{Instance, of-records, instance}
 use Rattle.sheet.specs.Reading.{reading}
@@ -11,7 +12,7 @@ use Rattle.sheet.specs.declared.Refusal.{Refusal}
 use Rattle.sheet.specs.declared.Reading.the-variants.{Accepted, Refused}
 use Rattle.records.specs.declared.Records.{Records}
 
--- the instance of the records; a field of a record that isn't there is 0
+-- the instance of the records; a field of a record that isn't there is 0, and the services barred from a cabinet are the members of its set
 unfoldable pub told : Records → Instance
 told k =
     of-records (k .services) (k .cabinets) (k .streams)
@@ -27,6 +28,7 @@ told k =
       «down_price» = getD (k .«down_price») c 0;
     })
     (λ j. record { from = getD (k .from) j 0; to = getD (k .to) j 0; demand = getD (k .load) j 0 })
+    (λ i c. has (getD (k .barred) c 0) i)
 
 -- so many services, cabinets and streams, with nothing but zeros in their records
 abbrev pub blank : ℕ → ℕ → ℕ → Records
@@ -43,6 +45,7 @@ blank r s q =
       «up_price» = replicate max-cabinets 0;
       «down_capacity» = replicate max-cabinets 0;
       «down_price» = replicate max-cabinets 0;
+      barred = replicate max-cabinets 0;
       from = replicate max-streams 0;
       to = replicate max-streams 0;
       load = replicate max-streams 0;

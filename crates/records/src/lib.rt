@@ -12,13 +12,15 @@ use sheet::Refusal;
 use sheet::Service;
 use sheet::Sheet;
 use sheet::Stream;
+use subsets::member;
 
 mod loading; // loading.rt: the records of an accepted sheet, read into arrays
 
 use loading::blank_records;
 use loading::load_accepted;
 
-// The records of a road and of a request; fields past the counts mean nothing.
+// The records of a road and of a request; fields past the counts mean nothing. The services barred from a cabinet are a set: service i is
+// barred where digit i of the number is 1.
 pub struct Records {
     pub services: usize,
     pub cabinets: usize,
@@ -31,6 +33,7 @@ pub struct Records {
     pub up_price: [u16; Sheet::MAX_CABINETS],
     pub down_capacity: [u16; Sheet::MAX_CABINETS],
     pub down_price: [u16; Sheet::MAX_CABINETS],
+    pub barred: [u16; Sheet::MAX_CABINETS],
     pub from: [u16; Sheet::MAX_STREAMS],
     pub to: [u16; Sheet::MAX_STREAMS],
     pub load: [u16; Sheet::MAX_STREAMS],
@@ -122,5 +125,15 @@ impl Records {
             to: index(field(&self.to, n, j)),
             demand: wide(field(&self.load, n, j)),
         }
+    }
+
+    // Whether service i is barred from cabinet c; not where either isn't there.
+    pub fn is_barred(self, i: usize, c: usize) -> bool
+        ensures { λ b. ⌜ b ≡ told self .barred i c ⌝ }
+    {
+        if self.services <= i {
+            return false;
+        }
+        member(index(field(&self.barred, self.cabinets, c)), i)
     }
 }

@@ -1,15 +1,20 @@
 // The records of an accepted sheet, read into arrays.
 ghost use mathlib.Core.Path.{_≡_};
-ghost use Prim.Native.Nat.{_<_};
+ghost use Prim.Native.Nat.{_^_, _<_};
+ghost use lib.Bits.{bitOr};
 ghost use Rattle.sheet.specs.Instance.{instance};
 ghost use Rattle.sheet.specs.Reading.{reading};
+ghost use Rattle.sheet.specs.Records.{pair-record};
 ghost use Rattle.sheet.specs.declared.Reading.the-variants.{Accepted};
+ghost use Rattle.sheet.specs.declared.PairRecord.the-variants.{Given};
 ghost use Rattle.sheet.specs.Inner.Fields.{service-of, cabinet-of, stream-of};
 ghost use Rattle.records.specs.Told.{told, blank};
-ghost use Rattle.records.specs.Inner.Loading.{Loading};
+ghost use Rattle.records.specs.Inner.Loading.{Loading, Barring};
 use crate::Records;
 use sheet::Cabinet;
 use sheet::CabinetRecord;
+use sheet::Pair;
+use sheet::PairRecord;
 use sheet::Service;
 use sheet::ServiceRecord;
 use sheet::Sheet;
@@ -61,6 +66,20 @@ fn stream_at(sheet: Sheet, bytes: &[u8], j: usize) -> Stream
     stream
 }
 
+fn pair_at(sheet: Sheet, bytes: &[u8], n: usize) -> Pair
+    requires { ⌜ (reading (now bytes) ≡ Accepted sheet) × (n < sheet .pairs) ⌝ }
+    ensures { λ p. ⌜ (pair-record sheet (now (bytes .entry)) n ≡ Given p) × (p .service < instance (now (bytes .entry)) .r) × (p .cabinet < instance (now (bytes .entry)) .s) ⌝ }
+{
+    let record = sheet.pair(bytes, n);
+    let PairRecord::Given(pair) = record else {
+        return Pair {
+            service: 0,
+            cabinet: 0,
+        };
+    };
+    pair
+}
+
 // A number that fits 16 bits.
 fn narrow(x: u64) -> u16
     requires { ⌜ x < 65536 ⌝ }
@@ -93,6 +112,7 @@ pub(crate) fn blank_records(services: usize, cabinets: usize, streams: usize) ->
         up_price: [0u16; Sheet::MAX_CABINETS],
         down_capacity: [0u16; Sheet::MAX_CABINETS],
         down_price: [0u16; Sheet::MAX_CABINETS],
+        barred: [0u16; Sheet::MAX_CABINETS],
         from: [0u16; Sheet::MAX_STREAMS],
         to: [0u16; Sheet::MAX_STREAMS],
         load: [0u16; Sheet::MAX_STREAMS],
@@ -152,6 +172,31 @@ fn with_streams(records: Records, sheet: Sheet, bytes: &[u8]) -> Records
     next
 }
 
+// The set x with service i.
+fn with_service(x: u16, i: usize) -> u16
+    requires { ⌜ i < 16 ⌝ }
+    ensures { λ y. ⌜ y ≡ bitOr x (2 ^ i) ⌝ }
+{
+    x | (1u16 << i)
+}
+
+// The services barred from each cabinet: those that some pair names with it.
+fn barred_sets(sheet: Sheet, bytes: &[u8]) -> [u16; Sheet::MAX_CABINETS]
+    requires { ⌜ reading (now bytes) ≡ Accepted sheet ⌝ }
+    ensures { λ sets. ⌜ Barring sheet (now (bytes .entry)) (sheet .pairs) sets ⌝ }
+{
+    let mut sets = [0u16; Sheet::MAX_CABINETS];
+    let count = sheet.pairs();
+    let mut n = 0;
+    while n < count {
+        let pair = pair_at(sheet, bytes, n);
+        let c = pair.cabinet;
+        sets[c] = with_service(sets[c], pair.service);
+        n += 1;
+    }
+    sets
+}
+
 // All records of the sheet.
 pub(crate) fn load_accepted(sheet: Sheet, bytes: &[u8]) -> Records
     requires { ⌜ reading (now bytes) ≡ Accepted sheet ⌝ }
@@ -160,5 +205,8 @@ pub(crate) fn load_accepted(sheet: Sheet, bytes: &[u8]) -> Records
     let empty = blank_records(sheet.services(), sheet.cabinets(), sheet.streams());
     let services = with_services(empty, sheet, bytes);
     let cabinets = with_cabinets(services, sheet, bytes);
-    with_streams(cabinets, sheet, bytes)
+    let mut all = with_streams(cabinets, sheet, bytes);
+    let barred = barred_sets(sheet, bytes);
+    all.barred = barred;
+    all
 }

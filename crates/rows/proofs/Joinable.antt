@@ -7,14 +7,14 @@ use lib.ListN.{length, getD}
 use Rattle.subsets.specs.declared.Best.{Best}
 use Rattle.subsets.specs.Inner.Folds.{earlier, figures, best-split, counted-below}
 use Rattle.subsets.proofs.Folds.{best-ext, counted-ext}
-use Rattle.rows.specs.declared.Node.{Node}
+use Rattle.rows.specs.declared.Link.{Link}
 use Rattle.rows.specs.Charges.{link-figure, run-out, run-in}
 use Rattle.rows.specs.Joins.{Joined}
 use Rattle.rows.specs.Rebuilds.{entry}
 use Rattle.rows.specs.Rebuilds.{joined-split, JoinsChild, JoinRoom}
 use Rattle.rows.proofs.Parted.{row-of, put-row, row-length, row-entry, row-put}
 
-module _ (k : Node) (sums : List ℕ) {size p c : ℕ} {t u : List ℕ} (J : JoinRoom size p c t u)
+module _ (k : Link) (sums : List ℕ) {size p c : ℕ} {t u : List ℕ} (J : JoinRoom size p c t u)
     (kid link : List ℕ) (copied : (x : ℕ) → x < length (row-of size c t) → getD kid x 0 ≡ getD (row-of size c t) x 0)
     (linked : (x : ℕ) → x < size → getD link x 0 ≡ link-figure k (run-out sums x) (run-in sums x)) where
   kid-entry : (x : ℕ) → x < size → figures kid x ≡ entry size t c x

@@ -22,7 +22,7 @@ use Rattle.subsets.proofs.Rebuild.{Agree, row-agrees, choice-agrees, count-agre
 use Rattle.rows.specs.Charges.{own-figure, demanded}
 use Rattle.rows.specs.Rebuilds.{entry, RowSet}
 use Rattle.rows.specs.Rebuilds.{link-figures, source, Rebuilds, JoinsChild, JoinRoom, RebuildRoom}
-use Rattle.rows.specs.Nodes.{field, node-of, parent-of, record-of}
+use Rattle.rows.specs.Cabinets.{field, own-in, link-in, parent-of, own-of, link-of}
 use Rattle.records.specs.declared.Records.{Records}
 use Rattle.rows.proofs.Joining.{counted-le}
 use Rattle.rows.proofs.Parted.{row-of, put-row, row-length, put-length, row-put, row-within}
@@ -32,11 +32,15 @@ pub field-at : (n : ℕ) (l : List ℕ) (i : ℕ) → i < n → field n l i ≡ 
 unfolding only
 field-at n l i h = rw (lt-ltb i n h) refl
 
--- a cabinet that is there
-pub node-there : (k : Records) (c : ℕ) → c < k .cabinets
-    → node-of (k .capacity) (k .price) (k .«up_capacity») (k .«up_price») (k .«down_capacity») (k .«down_price») c ≡ record-of k c
-unfolding record-of only
-node-there k c h = rw (lt-ltb c (k .cabinets) h) refl
+-- a cabinet that is there, and the link above it
+pub own-there : (k : Records) (c : ℕ) → c < k .cabinets → own-in (k .capacity) (k .price) (k .barred) c ≡ own-of k c
+unfolding own-of only
+own-there k c h = rw (lt-ltb c (k .cabinets) h) refl
+
+pub link-there : (k : Records) (c : ℕ) → c < k .cabinets
+    → link-in (k .«up_capacity») (k .«up_price») (k .«down_capacity») (k .«down_price») c ≡ link-of k c
+unfolding link-of only
+link-there k c h = rw (lt-ltb c (k .cabinets) h) refl
 
 -- a row set twice
 row-again : (size p : ℕ) (f g : ℕ → ℕ) (t t₁ t₂ : List ℕ) → RowSet size p f t t₁ → RowSet size p g t₁ t₂ → RowSet size p g t t₂
@@ -78,7 +82,7 @@ module _ (sums : List ℕ) {k : Records} {size p : ℕ} {t u : List ℕ} (R : Re
   none-up-to c h = rw (le-ltb p c (omega arith)) refl
 
   -- the row of p holds its own charges, and no child is joined yet
-  pub children-start : ((x : ℕ) → x < size → entry size t p x ≡ own-figure (record-of k p) (demanded sums x)) → Children S size p (p + 1) (k .cabinets) t t u u 0
+  pub children-start : ((x : ℕ) → x < size → entry size t p x ≡ own-figure (own-of k p) x (demanded sums x)) → Children S size p (p + 1) (k .cabinets) t t u u 0
   children-start own = record {
     after = omega arith;
     within = omega (arith, R .cabinet);
@@ -127,7 +131,7 @@ module _ (sums : List ℕ) {k : Records} {size p : ℕ} {t u : List ℕ} (R : Re
         }
 
     -- and is joined
-    pub children-join : parent-of k c ≡ p → {t₂ u₂ : List ℕ} {m : ℕ} → JoinsChild (record-of k c) size p c sums t₁ t₂ u₁ u₂ m → length t₂ ≡ length t₁ → length u₂ ≡ length u₁
+    pub children-join : parent-of k c ≡ p → {t₂ u₂ : List ℕ} {m : ℕ} → JoinsChild (link-of k c) size p c sums t₁ t₂ u₁ u₂ m → length t₂ ≡ length t₁ → length u₂ ≡ length u₁
         → Children S size p (c + 1) (k .cabinets) t t₂ u u₂ (n + m)
     unfolding rebuild.rebuilt-choice
     children-join parent {t₂} {u₂} {m} J lt lu = record {
@@ -155,7 +159,7 @@ module _ (sums : List ℕ) {k : Records} {size p : ℕ} {t u : List ℕ} (R : Re
         kid : (x : ℕ) → x < size → entry size t₁ c x ≡ entry size t c x
         kid x h = B .costs .rest c x (λ e. omega (arith, C .after)) h
 
-        same : (x : ℕ) → x < size → best-split earlier (entry size t₁ p) (entry size t₁ c) (link-figures (record-of k c) sums) x ≡ best-split (S .lower c x) (rebuilt-row S c) (S .row c) (S .link c) x
+        same : (x : ℕ) → x < size → best-split earlier (entry size t₁ p) (entry size t₁ c) (link-figures (link-of k c) sums) x ≡ best-split (S .lower c x) (rebuilt-row S c) (S .row c) (S .link c) x
         same x h = best-ext _ _ _ _ _ _ _ _ x (λ a d s t. refl) (λ a i. B .costs .row a (omega arith)) (λ a i. kid a (omega arith)) (λ a i. refl)
 
         go : (b x : ℕ) → b < suc c → S .child b ≡ true → x < size → (s : Bool) → eqb b c ≡ s → entry size u₂ b x ≡ rebuilt-choice S b x
@@ -166,11 +170,11 @@ module _ (sums : List ℕ) {k : Records} {size p : ℕ} {t u : List ℕ} (R : Re
 
 pub record Alone (k : Records) (size p : ℕ) (sums t t₀ u : List ℕ) : Type 0 where
   pub room : RebuildRoom k size p t₀ u
-  pub own : RowSet size p (λ x. own-figure (record-of k p) (demanded sums x)) t t₀
+  pub own : RowSet size p (λ x. own-figure (own-of k p) x (demanded sums x)) t t₀
   pub same : length t₀ ≡ length t
 
 pub alone : {k : Records} {size p : ℕ} {sums t u : List ℕ} → RebuildRoom k size p t u
-    → (ys : List ℕ) → length ys ≡ length (row-of size p t) → ((x : ℕ) → x < length (row-of size p t) → getD ys x 0 ≡ own-figure (record-of k p) (demanded sums x))
+    → (ys : List ℕ) → length ys ≡ length (row-of size p t) → ((x : ℕ) → x < length (row-of size p t) → getD ys x 0 ≡ own-figure (own-of k p) x (demanded sums x))
     → Alone k size p sums t (put-row size p t ys) u
 alone {k} {size} {p} {sums} {t} {u} R ys same filled =
     let fits : p * size + size ≤ length t = row-room R p (R .cabinet) .0 in

@@ -2,12 +2,14 @@
 use Prim.Native.Nat.{ℕ, _+_, _*_, _^_}
 use mathlib.Core.Bool.{_&&_}
 use mathlib.Core.List.{List}
-use lib.Dec.{leb}
+use lib.Bits.{bitAnd}
+use lib.Dec.{eqb, leb}
 use lib.ListN.{getD}
 use Rattle.sheet.specs.Limits.{max-services}
 use Rattle.subsets.specs.Costs.{Cost, provided}
 use Rattle.subsets.specs.Inner.Encoded.{figure}
-use Rattle.rows.specs.declared.Node.{Node}
+use Rattle.rows.specs.declared.Own.{Own}
+use Rattle.rows.specs.declared.Link.{Link}
 
 -- how many sets of services there can be
 abbrev pub max-sets : ℕ
@@ -17,20 +19,20 @@ max-sets = 2 ^ max-services
 abbrev pub all-sums : ℕ
 all-sums = 3 * max-sets
 
--- what cabinet k charges for services of so much demand
-abbrev pub own-cost : Node → ℕ → Cost
-own-cost k demand = provided (leb demand (k .capacity)) (demand * k .price)
+-- what cabinet k charges for the services x, of so much demand; none where they are too much for it or one is barred from it
+abbrev pub own-cost : Own → ℕ → ℕ → Cost
+own-cost k x demand = provided (leb demand (k .capacity) && eqb (bitAnd x (k .barred)) 0) (demand * k .price)
 
--- what the link above cabinet k charges for so much demand upwards and downwards
-abbrev pub link-cost : Node → ℕ → ℕ → Cost
+-- what the link k charges for so much demand upwards and downwards
+abbrev pub link-cost : Link → ℕ → ℕ → Cost
 link-cost k up down =
     provided (leb up (k .«up_capacity») && leb down (k .«down_capacity»)) (up * k .«up_price» + down * k .«down_price»)
 
 -- the figures of both
-abbrev pub own-figure : Node → ℕ → ℕ
-own-figure k demand = figure (own-cost k demand)
+abbrev pub own-figure : Own → ℕ → ℕ → ℕ
+own-figure k x demand = figure (own-cost k x demand)
 
-abbrev pub link-figure : Node → ℕ → ℕ → ℕ
+abbrev pub link-figure : Link → ℕ → ℕ → ℕ
 link-figure k up down = figure (link-cost k up down)
 
 -- the rows of an array of sums: what each set demands, what runs out of it, and what runs into it

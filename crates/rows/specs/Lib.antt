@@ -1,5 +1,5 @@
 -- One row of the tables rebuilt, whatever the tables hold.
-pub mod Nodes
+pub mod Cabinets
 pub mod Charges
 pub mod Joins
 pub mod Rebuilds

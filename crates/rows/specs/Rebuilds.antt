@@ -10,9 +10,9 @@ use Rattle.subsets.specs.Inner.Folds.{earlier, best-split, counted-below}
 use Rattle.subsets.specs.Inner.Rebuild.{Source, rebuilt-row, rebuilt-choice, rebuilt-count}
 use Rattle.subsets.specs.declared.Best.{Best}
 use Rattle.sheet.specs.Limits.{max-services, max-cabinets}
-use Rattle.rows.specs.Nodes.{parent-of, record-of}
+use Rattle.rows.specs.Cabinets.{parent-of, own-of, link-of}
 use Rattle.rows.specs.Charges.{max-sets, all-sums, own-figure, link-figure, demanded, run-out, run-in}
-use Rattle.rows.specs.declared.Node.{Node}
+use Rattle.rows.specs.declared.Link.{Link}
 use Rattle.records.specs.declared.Records.{Records}
 
 -- the entry for cabinet p and the set x, where a row has so many entries
@@ -25,17 +25,17 @@ pub record RowSet (size p : ℕ) (f : ℕ → ℕ) (t t' : List ℕ) : Type 0 wh
   pub rest : (d x : ℕ) → (d ≡ p → ⊥) → x < size → entry size t' d x ≡ entry size t d x
 
 -- what the link above a cabinet charges for each set, by what runs out of the set and into it
-abbrev pub link-figures : Node → List ℕ → ℕ → ℕ
+abbrev pub link-figures : Link → List ℕ → ℕ → ℕ
 link-figures k sums x = link-figure k (run-out sums x) (run-in sums x)
 
 -- what the row of p is rebuilt from: its children are numbered above it, and their rows stand in the cost table
 abbrev pub source : Records → ℕ → ℕ → List ℕ → List ℕ → Source
 source k size p sums t =
     record {
-      own = λ x. own-figure (record-of k p) (demanded sums x);
+      own = λ x. own-figure (own-of k p) x (demanded sums x);
       child = λ c. ltb p c && eqb (parent-of k c) p;
       row = entry size t;
-      link = λ c. link-figures (record-of k c) sums;
+      link = λ c. link-figures (link-of k c) sums;
       lower = λ c x. earlier;
     }
 
@@ -47,11 +47,11 @@ pub record Rebuilds (S : Source) (size p n : ℕ) (t t' u u' : List ℕ) (m : �
   pub count : m ≡ rebuilt-count S size n
 
 -- the best split of x where the row of c is joined to that of p
-abbrev pub joined-split : Node → ℕ → ℕ → ℕ → List ℕ → List ℕ → ℕ → Best
+abbrev pub joined-split : Link → ℕ → ℕ → ℕ → List ℕ → List ℕ → ℕ → Best
 joined-split k size p c sums t x = best-split earlier (entry size t p) (entry size t c) (link-figures k sums) x
 
--- c, whose record is k, is joined to p
-pub record JoinsChild (k : Node) (size p c : ℕ) (sums t t' u u' : List ℕ) (m : ℕ) : Type 0 where
+-- c, with the link k above it, is joined to p
+pub record JoinsChild (k : Link) (size p c : ℕ) (sums t t' u u' : List ℕ) (m : ℕ) : Type 0 where
   pub costs : RowSet size p (λ x. joined-split k size p c sums t x .cost) t t'
   pub choices : RowSet size c (λ x. joined-split k size p c sums t x .chosen) u u'
   pub count : m ≡ counted-below (entry size t p) (entry size t c) (link-figures k sums) size

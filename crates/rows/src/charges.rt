@@ -3,8 +3,10 @@ ghost use mathlib.Core.Path.{_≡_};
 ghost use Prim.Native.Nat.{ℕ, _*_, _≤_, _<_};
 ghost use lib.ListN.{length, getD};
 ghost use Rattle.rows.specs.Charges.{max-sets, all-sums, own-figure, link-figure, demanded, run-out, run-in};
-use crate::Node;
+use crate::Link;
+use crate::Own;
 use crate::SETS;
+use crate::index;
 use subsets::NONE;
 
 fn wide(x: u32) -> u64
@@ -28,18 +30,21 @@ fn priced(sum: u32, price: u16) -> u64
     s * p
 }
 
-// What a cabinet charges for services of so much demand.
-fn own_charge(demand: u32, k: Node) -> u64
-    ensures { λ n. ⌜ n ≡ own-figure k demand ⌝ }
+// What a cabinet charges for the services of x, of so much demand.
+fn own_charge(x: usize, demand: u32, k: Own) -> u64
+    ensures { λ n. ⌜ n ≡ own-figure k x demand ⌝ }
 {
     if word(k.capacity) < wide(demand) {
+        return NONE;
+    }
+    if x & index(k.barred) != 0 {
         return NONE;
     }
     priced(demand, k.price)
 }
 
 // What the link above a cabinet charges for so much demand upwards and downwards.
-fn link_charge(up: u32, down: u32, k: Node) -> u64
+fn link_charge(up: u32, down: u32, k: Link) -> u64
     ensures { λ n. ⌜ n ≡ link-figure k up down ⌝ }
 {
     if word(k.up_capacity) < wide(up) {
@@ -52,19 +57,19 @@ fn link_charge(up: u32, down: u32, k: Node) -> u64
 }
 
 // The row of a cabinet alone.
-pub(crate) fn fill_own(row: &mut [u64], sums: &[u32], k: Node)
+pub(crate) fn fill_own(row: &mut [u64], sums: &[u32], k: Own)
     requires { ⌜ (length (now row) ≤ max-sets) × (all-sums ≤ length (now sums)) ⌝ }
-    ensures { λ u. ⌜ ((x : ℕ) → x < length (now (row .entry)) → getD (now (row .exit)) x 0 ≡ own-figure k (demanded (now (sums .entry)) x)) ⌝ }
+    ensures { λ u. ⌜ ((x : ℕ) → x < length (now (row .entry)) → getD (now (row .exit)) x 0 ≡ own-figure k x (demanded (now (sums .entry)) x)) ⌝ }
 {
     let mut x = 0;
     while x < row.len() {
-        row[x] = own_charge(sums[x], k);
+        row[x] = own_charge(x, sums[x], k);
         x += 1;
     }
 }
 
 // What the link above a cabinet charges for every set below size.
-pub(crate) fn link_row(link: &mut [u64], sums: &[u32], k: Node, size: usize)
+pub(crate) fn link_row(link: &mut [u64], sums: &[u32], k: Link, size: usize)
     requires { ⌜ (size ≤ length (now link)) × (size ≤ max-sets) × (all-sums ≤ length (now sums)) ⌝ }
     ensures { λ u. ⌜ ((x : ℕ) → x < size → getD (now (link .exit)) x 0 ≡ link-figure k (run-out (now (sums .entry)) x) (run-in (now (sums .entry)) x)) ⌝ }
 {

@@ -2,7 +2,7 @@
 ghost use mathlib.Core.Path.{_≡_};
 ghost use Prim.Native.Nat.{_^_, _≤_, _<_};
 ghost use Rattle.sheet.specs.Limits.{max-services, max-cabinets};
-ghost use Rattle.rows.specs.Nodes.{node-of};
+ghost use Rattle.rows.specs.Cabinets.{own-in, link-in};
 ghost use Rattle.rows.specs.Rebuilds.{roomy, has-rows, RebuildsRow};
 use records::Records;
 use sheet::Sheet;
@@ -20,10 +20,15 @@ pub const SETS: usize = 1 << Sheet::MAX_SERVICES;
 // Rows of sums over sets: the demand, what runs out, what runs in. A row takes SETS places.
 pub const SUMS: usize = 3 * SETS;
 
-// What one cabinet and the link above it let through, and at what price.
-struct Node {
+// What a cabinet itself lets in, and at what price; the services barred from it are a set.
+struct Own {
     capacity: u16,
     price: u16,
+    barred: u16,
+}
+
+// What the link above a cabinet lets through each way, and at what price.
+struct Link {
     up_capacity: u16,
     up_price: u16,
     down_capacity: u16,
@@ -37,22 +42,35 @@ fn index(x: u16) -> usize
     x as usize
 }
 
-// Cabinet c, from the columns of the records. (Lent one by one, since records given by value are copied.)
-fn node_at<'a>(
+// What cabinet c lets in, from the columns of the records. (Lent one by one, since records given by value are copied.)
+fn own_at<'a>(
     capacity: &'a [u16; Sheet::MAX_CABINETS],
     price: &'a [u16; Sheet::MAX_CABINETS],
+    barred: &'a [u16; Sheet::MAX_CABINETS],
+    c: usize,
+) -> Own
+    requires { ⌜ c < max-cabinets ⌝ }
+    ensures { λ k. ⌜ k ≡ own-in (now (capacity .entry)) (now (price .entry)) (now (barred .entry)) c ⌝ }
+{
+    Own {
+        capacity: capacity[c],
+        price: price[c],
+        barred: barred[c],
+    }
+}
+
+// What the link above cabinet c lets through, in the same way.
+fn link_at<'a>(
     up_capacity: &'a [u16; Sheet::MAX_CABINETS],
     up_price: &'a [u16; Sheet::MAX_CABINETS],
     down_capacity: &'a [u16; Sheet::MAX_CABINETS],
     down_price: &'a [u16; Sheet::MAX_CABINETS],
     c: usize,
-) -> Node
+) -> Link
     requires { ⌜ c < max-cabinets ⌝ }
-    ensures { λ k. ⌜ k ≡ node-of (now (capacity .entry)) (now (price .entry)) (now («up_capacity» .entry)) (now («up_price» .entry)) (now («down_capacity» .entry)) (now («down_price» .entry)) c ⌝ }
+    ensures { λ k. ⌜ k ≡ link-in (now («up_capacity» .entry)) (now («up_price» .entry)) (now («down_capacity» .entry)) (now («down_price» .entry)) c ⌝ }
 {
-    Node {
-        capacity: capacity[c],
-        price: price[c],
+    Link {
         up_capacity: up_capacity[c],
         up_price: up_price[c],
         down_capacity: down_capacity[c],
@@ -121,15 +139,7 @@ pub fn rebuild(
         return 0;
     }
     let size = sets_of(records.services);
-    let own = node_at(
-        &records.capacity,
-        &records.price,
-        &records.up_capacity,
-        &records.up_price,
-        &records.down_capacity,
-        &records.down_price,
-        p,
-    );
+    let own = own_at(&records.capacity, &records.price, &records.barred, p);
     let at = p * size;
     let end = at + size;
     fill_own(&mut costs[at..end], sums, own);
@@ -141,9 +151,7 @@ pub fn rebuild(
         if index(records.parent[d]) != p {
             continue;
         }
-        let k = node_at(
-            &records.capacity,
-            &records.price,
+        let k = link_at(
             &records.up_capacity,
             &records.up_price,
             &records.down_capacity,

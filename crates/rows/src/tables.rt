@@ -3,7 +3,7 @@ ghost use mathlib.Core.Path.{_≡_};
 ghost use Prim.Native.Nat.{ℕ, _≤_, _<_};
 ghost use lib.ListN.{length, getD};
 ghost use Rattle.rows.specs.Rebuilds.{JoinRoom, JoinsChild, Scratch};
-use crate::Node;
+use crate::Link;
 use crate::charges::link_row;
 use crate::joins::join;
 
@@ -19,13 +19,13 @@ fn copy_row(copy: &mut [u64], row: &[u64])
     }
 }
 
-// Joins the row of p's child c, whose record is k, into that of p. The child's row is copied first, since two rows of one table cannot be lent at once.
+// Joins the row of p's child c, with the link k above it, into that of p. The child's row is copied first, since two rows of one table cannot be lent at once.
 pub(crate) fn join_child(
     costs: &mut [u64],
     choices: &mut [u16],
     child: &mut [u64],
     link: &mut [u64],
-    k: Node,
+    k: Link,
     sums: &[u32],
     p: usize,
     c: usize,

@@ -1,15 +1,14 @@
--- Each number has one group: a refusal that is given is the one of its number. The reader's numbers are 1 to 9.
-use Prim.Native.Nat.{ℕ, zero, suc, _≤_}
+-- Each number has one group: a refusal that is given is the one of its number. The reader's numbers are 1 to 9, 18 and 19.
+use Prim.Native.Nat.{ℕ, zero, suc}
 use mathlib.Core.Path.{_≡_, refl, sym, ap, _∙_}
-use mathlib.Core.Bool.{Bool, true, false, _&&_, cond}
-use mathlib.Core.List.{List, [], _∷_}
+use mathlib.Core.Bool.{Bool, true, false, _&&_, _||_, cond}
+use mathlib.Core.List.{List, [], _∷_, _++_}
 use native.Mathlib.Omega.{arith}
-use lib.Dec.{leb}
-use borrow.Author.Tests.{leb-true}
-use Rattle.finite.proofs.Booleans.{both-l, both-r}
+use lib.Dec.{eqb}
+use Rattle.finite.proofs.Booleans.{clash, both-l, both-r}
 use Rattle.sheet.specs.Layout.{header}
 use Rattle.sheet.specs.Refusals.{sheet-writers, lenders, roads, one-of, Rule, refusal, number-of, first-applying}
-use Rattle.sheet.specs.Reading.{rules, answered, reading}
+use Rattle.sheet.specs.Reading.{rules, reader-numbers, answered, reading}
 use Rattle.sheet.specs.declared.Refusal.{Refusal}
 use Rattle.sheet.specs.declared.Refusal.the-variants.{SheetWriter, Lender, Road, PlanWriter}
 use Rattle.sheet.specs.declared.Sheet.{Sheet}
@@ -42,32 +41,40 @@ reading-group bytes f e = given (first-applying (rules bytes)) (header bytes) f 
 
 -- ---- the numbers of a list of rules
 
--- every rule has a number from low to high
-abbrev pub numbered : ℕ → ℕ → List Rule → Bool
-numbered low high [] = true
-numbered low high (x ∷ xs) = (leb low (x .number) && leb (x .number) high) && numbered low high xs
+-- a number of the first of two lists is in both together
+pub one-of-left : (ms ns : List ℕ) (n : ℕ) → one-of ms n ≡ true → one-of (ms ++ ns) n ≡ true
+one-of-left [] ns n e = clash (sym e)
+one-of-left (m ∷ ms) ns n e = go (eqb m n) e (one-of-left ms ns n)
+  where
+    go : (t : Bool) → t || one-of ms n ≡ true → (one-of ms n ≡ true → one-of (ms ++ ns) n ≡ true) → t || one-of (ms ++ ns) n ≡ true
+    go true e f = refl
+    go false e f = f e
+
+-- every rule has a number that passes a test
+abbrev pub listed : (ℕ → Bool) → List Rule → Bool
+listed t [] = true
+listed t (x ∷ xs) = t (x .number) && listed t xs
 
 -- so has the one that is given
-pub first-between : (low high : ℕ) (xs : List Rule) → numbered low high xs ≡ true → (n : ℕ) → first-applying xs ≡ suc n → (low ≤ suc n) × (suc n ≤ high)
+pub first-listed : (t : ℕ → Bool) (xs : List Rule) → listed t xs ≡ true → (n : ℕ) → first-applying xs ≡ suc n → t (suc n) ≡ true
 unfolding first-applying
-first-between low high [] b n e = absurd (omega arith)
-first-between low high (x ∷ xs) b n e =
-    go (x .applies) refl (both-l (leb low (x .number) && leb (x .number) high) (numbered low high xs) b) (first-between low high xs (both-r (leb low (x .number) && leb (x .number) high) (numbered low high xs) b) n)
+first-listed t [] b n e = absurd (omega arith)
+first-listed t (x ∷ xs) b n e =
+    go (x .applies) refl (first-listed t xs (both-r (t (x .number)) (listed t xs) b) n)
   where
-    go : (t : Bool) → x .applies ≡ t → leb low (x .number) && leb (x .number) high ≡ true → (first-applying xs ≡ suc n → (low ≤ suc n) × (suc n ≤ high)) → (low ≤ suc n) × (suc n ≤ high)
-    go true q h ih =
+    go : (a : Bool) → x .applies ≡ a → (first-applying xs ≡ suc n → t (suc n) ≡ true) → t (suc n) ≡ true
+    go true q ih =
         let k : x .number ≡ suc n = simp q at e in
-        (omega (arith, leb-true low (x .number) (both-l (leb low (x .number)) (leb (x .number) high) h)), omega (arith, leb-true (x .number) high (both-r (leb low (x .number)) (leb (x .number) high) h)))
-    go false q h ih = ih (simp q at e)
+        ap t (sym k) ∙ both-l (t (x .number)) (listed t xs) b
+    go false q ih = ih (simp q at e)
 
--- the reader's numbers are 1 to 9
-pub reading-number : (bytes : List ℕ) (f : Refusal) → reading bytes ≡ Refused f → (1 ≤ number-of f) × (number-of f ≤ 9)
+-- the reader's numbers are 1 to 9, 18 and 19
+pub reading-number : (bytes : List ℕ) (f : Refusal) → reading bytes ≡ Refused f → one-of reader-numbers (number-of f) ≡ true
 unfolding reading rules answered
 reading-number bytes f e = go (first-applying (rules bytes)) refl e
   where
-    go : (m : ℕ) → first-applying (rules bytes) ≡ m → answered m (header bytes) ≡ Refused f → (1 ≤ number-of f) × (number-of f ≤ 9)
+    go : (m : ℕ) → first-applying (rules bytes) ≡ m → answered m (header bytes) ≡ Refused f → one-of reader-numbers (number-of f) ≡ true
     go zero q e = absurd (let z : _≡_ {A = ℕ} 0 1 = cc in omega arith)
     go (suc n) q e =
-        let b = first-between 1 9 (rules bytes) refl n q in
         let k : number-of f ≡ suc n = ap number-of (let z : f ≡ refusal (suc n) = cc in z) ∙ number-refusal (suc n) in
-        (omega (arith, b .0), omega (arith, b .1))
+        ap (one-of reader-numbers) k ∙ first-listed (one-of reader-numbers) (rules bytes) refl n q

@@ -14,7 +14,7 @@ use Rattle.sheet.specs.Reading.{rules, answered, reading, number}
 use Rattle.sheet.specs.declared.Sheet.{Sheet}
 use Rattle.sheet.specs.declared.Refusal.{Refusal}
 use Rattle.sheet.specs.declared.Reading.the-variants.{Accepted, Refused}
-use Rattle.sheet.proofs.Groups.{number-refusal, numbered}
+use Rattle.sheet.proofs.Groups.{number-refusal, listed}
 use Rattle.sheet.proofs.Ladder.{pass}
 
 -- ---- the groups and the order have every number
@@ -128,12 +128,11 @@ given-first xs o = ordered-first giving xs refl o
 -- ---- one list of rules after another
 
 -- where none of the first applies, the others decide
-pub first-none : (high : ℕ) (xs ys : List Rule) → numbered 1 high xs ≡ true → first-applying xs ≡ 0 → first-applying (xs ++ ys) ≡ first-applying ys
+pub first-none : (xs ys : List Rule) → listed (leb 1) xs ≡ true → first-applying xs ≡ 0 → first-applying (xs ++ ys) ≡ first-applying ys
 unfolding first-applying
-first-none high [] ys b e = refl
-first-none high (x ∷ xs) ys b e =
-    let low = leb-true 1 (x .number) (both-l (leb 1 (x .number)) (leb (x .number) high) (both-l (leb 1 (x .number) && leb (x .number) high) (numbered 1 high xs) b)) in
-    go (x .applies) refl low (first-none high xs ys (both-r (leb 1 (x .number) && leb (x .number) high) (numbered 1 high xs) b))
+first-none [] ys b e = refl
+first-none (x ∷ xs) ys b e =
+    go (x .applies) refl (leb-true 1 (x .number) (both-l (leb 1 (x .number)) (listed (leb 1) xs) b)) (first-none xs ys (both-r (leb 1 (x .number)) (listed (leb 1) xs) b))
   where
     go : (t : Bool) → x .applies ≡ t → 1 ≤ x .number → (first-applying xs ≡ 0 → first-applying (xs ++ ys) ≡ first-applying ys) → first-applying (x ∷ (xs ++ ys)) ≡ first-applying ys
     go true q l f = absurd (let k : x .number ≡ 0 = simp q at e in omega arith)
@@ -178,6 +177,6 @@ unfolding reading rules answered
 after-reader bytes own n accepted refused = go (first-applying (rules bytes)) refl
   where
     go : (m : ℕ) → first-applying (rules bytes) ≡ m → n ≡ first-applying (rules bytes ++ own)
-    go zero e = accepted (header bytes) (ap (λ (k : ℕ). answered k (header bytes)) e) ∙ sym (first-none 9 (rules bytes) own refl e)
+    go zero e = accepted (header bytes) (ap (λ (k : ℕ). answered k (header bytes)) e) ∙ sym (first-none (rules bytes) own refl e)
     go (suc m) e =
         refused (refusal (suc m)) (ap (λ (k : ℕ). answered k (header bytes)) e) ∙ number-refusal (suc m) ∙ sym (first-some (rules bytes) own m e)

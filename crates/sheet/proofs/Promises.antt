@@ -1,31 +1,34 @@
 -- What the crates above may rely on: an accepted sheet is well formed, and the record calls give its records.
 use Prim.Native.Nat.{ℕ, zero, suc, _+_, _*_, _≤_, _<_}
 use mathlib.Core.Path.{_≡_, refl, sym, ap, _∙_}
-use mathlib.Core.Bool.{Bool, true, false, _||_, not}
+use mathlib.Core.Bool.{Bool, true, false, _&&_, _||_, not, and-false}
 use mathlib.Core.List.{List, _∷_}
 use native.Mathlib.Omega.{arith}
 use lib.Dec.{eqb, ltb, leb}
-use lib.ListN.{length}
+use lib.ListN.{length, length-drop}
 use borrow.Author.Tests.{ltb-true, ltb-false, leb-false, eqb-true, eqb-false, lt-ltb, le-leb, ne-eqb, not-false}
 use Rattle.finite.specs.Below.{only, any-below}
-use Rattle.finite.proofs.Booleans.{clash}
-use Rattle.finite.proofs.Tests.{none-at}
+use Rattle.finite.proofs.Booleans.{clash, both-l, both-r, neither-l, neither-r}
+use Rattle.finite.proofs.Tests.{none-at, any-at, any-ext}
 use Rattle.sheet.specs.Limits.{max-amount}
-use Rattle.sheet.specs.Inner.Within.{Inside}
-use Rattle.sheet.specs.Layout.{header, service, cabinet, stream}
-use Rattle.sheet.specs.Conditions.{beyond-limits, some-block-outside, too-high, cabinet-too-high, some-amount-too-high, wrong-parent, some-parent-wrong, wrong-ends, some-ends-wrong, linked, root-linked}
+use Rattle.sheet.specs.Inner.Within.{Inside, PairsInside}
+use Rattle.sheet.specs.Layout.{header, part-from, service, cabinet, stream, pair}
+use Rattle.sheet.specs.Conditions.{too-short, beyond-limits, some-block-outside, too-high, cabinet-too-high, some-amount-too-high, wrong-parent, some-parent-wrong, wrong-ends, some-ends-wrong, linked, root-linked, pairs-block-wrong, wrong-pair, some-pair-wrong}
 use Rattle.sheet.specs.Refusals.{Rule, first-applying}
 use Rattle.sheet.specs.Reading.{rules, answered, reading}
-use Rattle.sheet.specs.Records.{there, service-record, cabinet-record, stream-record}
-use Rattle.sheet.specs.Instance.{WellFormed, instance}
+use Rattle.sheet.specs.Records.{there, service-record, cabinet-record, stream-record, pair-record, bars}
+use Rattle.sheet.specs.Instance.{WellFormed, names, some-names, instance}
 use Rattle.sheet.specs.declared.Sheet.{Sheet}
 use Rattle.sheet.specs.declared.Cabinet.{Cabinet}
 use Rattle.sheet.specs.declared.Stream.{Stream}
+use Rattle.sheet.specs.declared.Pair.{Pair}
 use Rattle.sheet.specs.declared.Reading.the-variants.{Accepted}
 use Rattle.sheet.specs.declared.ServiceRecord.the-variants as services
 use Rattle.sheet.specs.declared.CabinetRecord.the-variants as cabinets
 use Rattle.sheet.specs.declared.StreamRecord.the-variants as streams
-use Rattle.sheet.proofs.Passed.{Counted, counted, inside}
+use Rattle.sheet.specs.declared.PairRecord.{PairRecord}
+use Rattle.sheet.specs.declared.PairRecord.the-variants as pairs
+use Rattle.sheet.proofs.Passed.{Counted, counted, inside, pairs-inside}
 
 -- ---- none of the rules applies
 
@@ -45,12 +48,15 @@ is-zero (suc n) h k e = absurd (let z : _≡_ {A = ℕ} 0 1 = cc in omega arith)
 
 -- the conditions that do not hold of an accepted sheet, as far as the records are concerned
 record Clear (h : Sheet) (bytes : List ℕ) : Type 0 where
-  limits : beyond-limits h bytes ≡ false
+  long : too-short bytes ≡ false
+  limits : beyond-limits h ≡ false
   blocks : some-block-outside h (length bytes) ≡ false
   amounts : some-amount-too-high h bytes ≡ false
   parents : some-parent-wrong h bytes ≡ false
   ends : some-ends-wrong h bytes ≡ false
   root : root-linked h bytes ≡ false
+  pairs-block : pairs-block-wrong h (length bytes) ≡ false
+  pairs-named : some-pair-wrong h bytes ≡ false
 
 clear : (bytes : List ℕ) → first-applying (rules bytes) ≡ 0 → Clear (header bytes) bytes
 unfolding rules
@@ -64,13 +70,18 @@ clear bytes e =
     let p7 = passed _ _ (omega arith) (p6 .1) in
     let p8 = passed _ _ (omega arith) (p7 .1) in
     let p9 = passed _ _ (omega arith) (p8 .1) in
+    let p18 = passed _ _ (omega arith) (p9 .1) in
+    let p19 = passed _ _ (omega arith) (p18 .1) in
     record {
+      long = p1 .0;
       limits = p2 .0;
       blocks = p4 .0;
       amounts = p6 .0;
       parents = p7 .0;
       ends = p8 .0;
       root = p9 .0;
+      pairs-block = p18 .0;
+      pairs-named = p19 .0;
     }
 
 -- ---- one record
@@ -162,6 +173,18 @@ not-linked k e =
       eqb-true _ _ (not-false _ (f .5)),
     )
 
+-- a pair that refusal 19 does not apply to names a service and a cabinet
+named : (r s : ℕ) (p : Pair) → wrong-pair r s p ≡ false → (p .service < r) × (p .cabinet < s)
+unfolding wrong-pair
+named r s p e =
+    (leb-false _ _ (neither-l (leb r (p .service)) (leb s (p .cabinet)) e), leb-false _ _ (neither-r (leb r (p .service)) (leb s (p .cabinet)) e))
+
+-- the service and the cabinet that a pair names
+named-by : (p : Pair) (i c : ℕ) → names p i c ≡ true → (p .service ≡ i) × (p .cabinet ≡ c)
+unfolding names
+named-by p i c e =
+    (eqb-true _ _ (both-l (eqb (p .service) i) (eqb (p .cabinet) c) e), eqb-true _ _ (both-r (eqb (p .service) i) (eqb (p .cabinet) c) e))
+
 -- ---- a field of every number, 0 where there is no record
 
 field-le : (n m : ℕ) (f : ℕ → ℕ) → ((d : ℕ) → d < n → f d ≤ m) → (d : ℕ) → only (ltb d n) (f d) ≤ m
@@ -195,10 +218,13 @@ module _ (bytes : List ℕ) (h : Sheet) (a : reading bytes ≡ Accepted h) where
   clean = clear bytes (zero-refusals .0)
 
   sizes : Counted (header bytes)
-  sizes = counted (header bytes) bytes (clean .limits)
+  sizes = counted (header bytes) (clean .limits)
 
   lies : Inside (header bytes) (length bytes)
   lies = inside (header bytes) (length bytes) (sizes .some-cabinet) (clean .blocks)
+
+  pairs-lie : PairsInside (header bytes) (length bytes)
+  pairs-lie = pairs-inside bytes (ltb-false _ _ (clean .long)) (clean .pairs-block)
 
   -- the reader's value has the counts of the instance
   pub counts : (h .services ≡ instance bytes .r) × (h .cabinets ≡ instance bytes .s) × (h .streams ≡ instance bytes .q)
@@ -248,6 +274,30 @@ module _ (bytes : List ℕ) (h : Sheet) (a : reading bytes ≡ Accepted h) where
   unfolding some-ends-wrong
   ends-of j k = ends-right _ _ (none-at (header bytes .streams) _ (clean .ends) j k)
 
+  pair-named : (n : ℕ) → n < header bytes .pairs → (pair (header bytes) bytes n .service < header bytes .services) × (pair (header bytes) bytes n .cabinet < header bytes .cabinets)
+  unfolding some-pair-wrong
+  pair-named n k = named _ _ _ (none-at (header bytes .pairs) _ (clean .pairs-named) n k)
+
+  -- a pair that names service i and cabinet c: both are there
+  abbrev named-below : ℕ → ℕ → Bool
+  named-below = some-names (header bytes .pairs) (pair (header bytes) bytes)
+
+  bar-named : (i c : ℕ) → named-below i c ≡ true → (i < header bytes .services) × (c < header bytes .cabinets)
+  unfolding some-names
+  bar-named i c e =
+      let w = any-at (header bytes .pairs) (λ n. names (pair (header bytes) bytes n) i c) e in
+      let b = named-by (pair (header bytes) bytes (w .0)) i c (w .2) in
+      let n = pair-named (w .0) (w .1) in
+      (omega (arith, b .0, n .0), omega (arith, b .1, n .1))
+
+  -- so that a service and a cabinet are barred exactly where some pair names them
+  bar-is : (i c : ℕ) → (ltb i (header bytes .services) && ltb c (header bytes .cabinets)) && named-below i c ≡ named-below i c
+  bar-is i c = go (named-below i c) refl
+    where
+      go : (t : Bool) → named-below i c ≡ t → (ltb i (header bytes .services) && ltb c (header bytes .cabinets)) && named-below i c ≡ named-below i c
+      go true e = let b = bar-named i c e in rw (lt-ltb i (header bytes .services) (b .0), lt-ltb c (header bytes .cabinets) (b .1)) refl
+      go false e = rw e (and-false (ltb i (header bytes .services) && ltb c (header bytes .cabinets)))
+
   abbrev cab : ℕ → Cabinet
   cab c = cabinet (header bytes) bytes c
 
@@ -291,6 +341,7 @@ module _ (bytes : List ℕ) (h : Sheet) (a : reading bytes ≡ Accepted h) where
           at-root (λ d. cab d .«down_capacity») ∙ root .2,
           at-root (λ d. cab d .«down_price») ∙ root .3,
         );
+        bars = λ i c e. bar-named i c (sym (bar-is i c) ∙ e);
       }
 
   -- and of the root's parent
@@ -342,3 +393,30 @@ module _ (bytes : List ℕ) (h : Sheet) (a : reading bytes ≡ Accepted h) where
       let f : header bytes .«streams_at» + 6 * j + 6 ≤ length bytes = omega (arith, lies .streams) in
       rw (zero-refusals .1)
       (simp (lt-ltb j (header bytes .streams) k, le-leb (header bytes .«streams_at» + 6 * j + 6) (length bytes) f))
+
+  -- every pair that the sheet has is given, as it stands in the sheet
+  given-pair : (n : ℕ) → n < h .pairs → pair-record h bytes n ≡ pairs.Given (pair (header bytes) bytes n)
+  unfolding pair-record there
+  given-pair n k =
+      let l : n < header bytes .pairs = omega (arith, ap (λ (x : Sheet). x .pairs) (zero-refusals .1)) in
+      let f : 2 + 4 * n + 4 ≤ length (part-from (header bytes .«pairs_at») bytes) = simp length-drop (omega (arith, pairs-lie)) in
+      rw (zero-refusals .1)
+      (simp (lt-ltb n (header bytes .pairs) l, le-leb (2 + 4 * n + 4) (length (part-from (header bytes .«pairs_at») bytes)) f))
+
+  -- every pair that the sheet has is given, and names a service and a cabinet
+  pub pair-given :
+      (n : ℕ) →
+      n < h .pairs →
+      (p : Pair) × (pair-record h bytes n ≡ pairs.Given p) × (p .service < instance bytes .r) × (p .cabinet < instance bytes .s)
+  unfolding instance
+  pair-given n k =
+      let l : n < header bytes .pairs = omega (arith, ap (λ (x : Sheet). x .pairs) (zero-refusals .1)) in
+      (pair (header bytes) bytes n, given-pair n k, pair-named n l .0, pair-named n l .1)
+
+  -- a service is barred from a cabinet exactly when one of these pairs names both
+  pub barred-pairs : (i c : ℕ) → instance bytes .barred i c ≡ any-below (h .pairs) (λ n. bars (pair-record h bytes n) i c)
+  unfolding instance some-names
+  barred-pairs i c =
+      bar-is i c
+      ∙ ap (λ (m : ℕ). any-below m (λ n. names (pair (header bytes) bytes n) i c)) (sym (ap (λ (x : Sheet). x .pairs) (zero-refusals .1)))
+      ∙ any-ext (h .pairs) (λ n. names (pair (header bytes) bytes n) i c) (λ n. bars (pair-record h bytes n) i c) (λ n k. sym (ap (λ (x : PairRecord). bars x i c) (given-pair n k)))

@@ -1,28 +1,28 @@
--- The condition of each of the reader's refusals, 1 to 9 of 01's section "Who can cause a refusal".
+-- The condition of each of the reader's refusals: 1 to 9 of 01's section "Who can cause a refusal", 18 and 19 of 02 (a).
 use Prim.Native.Nat.{ℕ, _+_}
 use mathlib.Core.Bool.{Bool, _&&_, _||_, not, cond}
 use mathlib.Core.List.{List}
 use lib.ListN.{length}
 use lib.Dec.{eqb, ltb, leb}
 use Rattle.finite.specs.Below.{any-below}
-use Rattle.sheet.specs.Limits.{max-services, max-cabinets, max-streams, max-amount}
-use Rattle.sheet.specs.Layout.{length-word, eighth-word, service, cabinet, stream, services-size, cabinets-size, streams-size}
+use Rattle.sheet.specs.Limits.{max-services, max-cabinets, max-streams, max-pairs, max-amount}
+use Rattle.sheet.specs.Layout.{header-size, length-word, service, cabinet, stream, pair, services-size, cabinets-size, streams-size, pairs-size}
 use Rattle.sheet.specs.declared.Sheet.{Sheet}
 use Rattle.sheet.specs.declared.Cabinet.{Cabinet}
 use Rattle.sheet.specs.declared.Stream.{Stream}
+use Rattle.sheet.specs.declared.Pair.{Pair}
 
 -- 1: fewer than 16 bytes
 abbrev pub too-short : List ℕ → Bool
-too-short bytes = ltb (length bytes) 16
+too-short bytes = ltb (length bytes) header-size
 
--- 2: r, s or q outside its limits, or the eighth word not 0
-unfoldable pub beyond-limits : Sheet → List ℕ → Bool
-beyond-limits h bytes =
+-- 2: r, s or q outside its limits
+unfoldable pub beyond-limits : Sheet → Bool
+beyond-limits h =
     ltb max-services (h .services)
     || ltb (h .cabinets) 1
     || ltb max-cabinets (h .cabinets)
     || ltb max-streams (h .streams)
-    || not (eqb (eighth-word bytes) 0)
 
 -- 3: the length word is not the sheet's length
 abbrev pub wrong-length : List ℕ → Bool
@@ -30,7 +30,7 @@ wrong-length bytes = not (eqb (length-word bytes) (length bytes))
 
 -- 4: a block's offset is below 16, or the block ends past the length
 unfoldable pub outside : ℕ → ℕ → ℕ → Bool
-outside len at size = ltb at 16 || ltb len (at + size)
+outside len at size = ltb at header-size || ltb len (at + size)
 
 unfoldable pub some-block-outside : Sheet → ℕ → Bool
 some-block-outside h len =
@@ -95,3 +95,23 @@ linked k =
 
 unfoldable pub root-linked : Sheet → List ℕ → Bool
 root-linked h bytes = linked (cabinet h bytes 0)
+
+-- the fourth block shares a byte with one of the others
+unfoldable pub shared-by-pairs : Sheet → Bool
+shared-by-pairs h =
+    share (h .«services_at») (services-size h) (h .«pairs_at») (pairs-size h)
+    || share (h .«cabinets_at») (cabinets-size h) (h .«pairs_at») (pairs-size h)
+    || share (h .«streams_at») (streams-size h) (h .«pairs_at») (pairs-size h)
+
+-- 18: there is a fourth block, and it starts below 16, ends past the length, has too high a count, or shares a byte with another
+unfoldable pub pairs-block-wrong : Sheet → ℕ → Bool
+pairs-block-wrong h len =
+    not (eqb (h .«pairs_at») 0)
+    && (outside len (h .«pairs_at») (pairs-size h) || ltb max-pairs (h .pairs) || shared-by-pairs h)
+
+-- 19: a pair names no service or no cabinet
+unfoldable pub wrong-pair : ℕ → ℕ → Pair → Bool
+wrong-pair r s p = leb r (p .service) || leb s (p .cabinet)
+
+unfoldable pub some-pair-wrong : Sheet → List ℕ → Bool
+some-pair-wrong h bytes = any-below (h .pairs) (λ n. wrong-pair (h .services) (h .cabinets) (pair h bytes n))

@@ -1,14 +1,16 @@
 -- What a planning sheet says, with nothing of how it is laid out. This is all that the crates above the reader know.
 use Prim.Native.Nat.{ℕ, _≤_, _<_}
 use mathlib.Core.Path.{_≡_}
+use mathlib.Core.Bool.{Bool, true, _&&_}
 use mathlib.Core.List.{List}
-use lib.Dec.{ltb}
-use Rattle.finite.specs.Below.{only}
+use lib.Dec.{eqb, ltb}
+use Rattle.finite.specs.Below.{only, any-below}
 use Rattle.sheet.specs.Limits.{max-services, max-cabinets, max-streams, max-amount}
-use Rattle.sheet.specs.Layout.{header, service, cabinet, stream}
+use Rattle.sheet.specs.Layout.{header, service, cabinet, stream, pair}
 use Rattle.sheet.specs.declared.Service.{Service}
 use Rattle.sheet.specs.declared.Cabinet.{Cabinet}
 use Rattle.sheet.specs.declared.Stream.{Stream}
+use Rattle.sheet.specs.declared.Pair.{Pair}
 
 -- r services, s cabinets and q streams, and each field of a record by the record's number
 pub record Instance : Type 0 where
@@ -29,10 +31,13 @@ pub record Instance : Type 0 where
   pub from : ℕ → ℕ
   pub to : ℕ → ℕ
   pub load : ℕ → ℕ
+  -- service i is barred from cabinet c
+  pub barred : ℕ → ℕ → Bool
 
--- the instance of so many services, cabinets and streams, and of each record by its number; a field of a record that isn't there is 0
-abbrev pub of-records : ℕ → ℕ → ℕ → (ℕ → Service) → (ℕ → Cabinet) → (ℕ → Stream) → Instance
-of-records r s q service cabinet stream =
+-- the instance of so many services, cabinets and streams, of each record by its number, and of what is barred; a field of a record that isn't
+-- there is 0, and a service that isn't there is barred from nothing, as is any service from a cabinet that isn't there
+abbrev pub of-records : ℕ → ℕ → ℕ → (ℕ → Service) → (ℕ → Cabinet) → (ℕ → Stream) → (ℕ → ℕ → Bool) → Instance
+of-records r s q service cabinet stream barred =
     record {
       r = r;
       s = s;
@@ -48,13 +53,23 @@ of-records r s q service cabinet stream =
       from = λ j. only (ltb j q) (stream j .from);
       to = λ j. only (ltb j q) (stream j .to);
       load = λ j. only (ltb j q) (stream j .demand);
+      barred = λ i c. (ltb i r && ltb c s) && barred i c;
     }
 
--- the instance of a sheet
+-- a pair names service i and cabinet c
+unfoldable pub names : Pair → ℕ → ℕ → Bool
+names p i c = eqb (p .service) i && eqb (p .cabinet) c
+
+-- some of the first n pairs names service i and cabinet c
+unfoldable pub some-names : ℕ → (ℕ → Pair) → ℕ → ℕ → Bool
+some-names n pair i c = any-below n (λ k. names (pair k) i c)
+
+-- the instance of a sheet: a service is barred from a cabinet where some pair names both
 unfoldable pub instance : List ℕ → Instance
 instance bytes =
     of-records (header bytes .services) (header bytes .cabinets) (header bytes .streams)
     (service (header bytes) bytes) (cabinet (header bytes) bytes) (stream (header bytes) bytes)
+    (some-names (header bytes .pairs) (pair (header bytes) bytes))
 
 -- every number of a family is at most 10,000
 abbrev pub Amounts : (ℕ → ℕ) → Type 0
@@ -80,3 +95,4 @@ pub record WellFormed (I : Instance) : Type 0 where
   pub ends-differ : (j : ℕ) → j < I .q → I .from j ≡ I .to j → ⊥
   pub root-links :
       (I .up-capacity 0 ≡ 0) × (I .up-price 0 ≡ 0) × (I .down-capacity 0 ≡ 0) × (I .down-price 0 ≡ 0)
+  pub bars : (i c : ℕ) → I .barred i c ≡ true → (i < I .r) × (c < I .s)

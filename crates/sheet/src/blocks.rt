@@ -1,8 +1,8 @@
-// Where the three blocks lie: the conditions of refusals 4 and 5.
+// Where the four blocks lie: the conditions of refusals 4, 5 and 18.
 ghost use mathlib.Core.Path.{_≡_};
 ghost use Prim.Native.Nat.{_+_, _<_, _^_};
 ghost use Rattle.sheet.specs.Inner.Within.{Bounded};
-ghost use Rattle.sheet.specs.Conditions.{outside, some-block-outside, share, some-blocks-share};
+ghost use Rattle.sheet.specs.Conditions.{outside, some-block-outside, share, some-blocks-share, shared-by-pairs, pairs-block-wrong};
 use crate::Sheet;
 
 // The block starts in the header or ends past the length.
@@ -44,4 +44,33 @@ pub(crate) fn any_share(sheet: Sheet) -> bool
     let y = do_share(sheet.services_at, services, sheet.streams_at, streams);
     let z = do_share(sheet.cabinets_at, cabinets, sheet.streams_at, streams);
     x || y || z
+}
+
+// The fourth block shares a byte with one of the others.
+fn do_pairs_share(sheet: Sheet) -> bool
+    requires { ⌜ Bounded sheet ⌝ }
+    ensures { λ r. ⌜ r ≡ shared-by-pairs sheet ⌝ }
+{
+    let services = Sheet::SERVICE * sheet.services;
+    let cabinets = Sheet::CABINET * sheet.cabinets;
+    let streams = Sheet::STREAM * sheet.streams;
+    let pairs = Sheet::COUNT + Sheet::PAIR * sheet.pairs;
+    let x = do_share(sheet.services_at, services, sheet.pairs_at, pairs);
+    let y = do_share(sheet.cabinets_at, cabinets, sheet.pairs_at, pairs);
+    let z = do_share(sheet.streams_at, streams, sheet.pairs_at, pairs);
+    x || y || z
+}
+
+// Refusal 18.
+pub(crate) fn is_pairs_block_wrong(sheet: Sheet, len: usize) -> bool
+    requires { ⌜ Bounded sheet ⌝ }
+    ensures { λ r. ⌜ r ≡ pairs-block-wrong sheet len ⌝ }
+{
+    if sheet.pairs_at == 0 {
+        return false;
+    }
+    let size = Sheet::COUNT + Sheet::PAIR * sheet.pairs;
+    let x = is_outside(len, sheet.pairs_at, size);
+    let y = do_pairs_share(sheet);
+    x || Sheet::MAX_PAIRS < sheet.pairs || y
 }

@@ -1,18 +1,19 @@
-// Refusals 2 and 6 to 9: limits, and the conditions on records over a whole block.
+// Refusals 2, 6 to 9 and 19: limits, and the conditions on records over a whole block.
 ghost use mathlib.Core.Path.{_≡_};
-ghost use Prim.Native.Nat.{_*_, _≤_};
+ghost use Prim.Native.Nat.{_+_, _*_, _≤_};
 ghost use lib.ListN.{length};
 ghost use Rattle.finite.specs.Below.{any-below};
-ghost use Rattle.sheet.specs.Inner.Within.{Inside};
-ghost use Rattle.sheet.specs.Layout.{service-in, cabinet-in, stream-in};
-ghost use Rattle.sheet.specs.Conditions.{beyond-limits, too-high, cabinet-too-high, some-amount-too-high, wrong-parent, some-parent-wrong, wrong-ends, some-ends-wrong, linked, root-linked};
+ghost use Rattle.sheet.specs.Inner.Within.{Inside, PairsInside};
+ghost use Rattle.sheet.specs.Layout.{service-in, cabinet-in, stream-in, pair-in};
+ghost use Rattle.sheet.specs.Conditions.{beyond-limits, too-high, cabinet-too-high, some-amount-too-high, wrong-parent, some-parent-wrong, wrong-ends, some-ends-wrong, linked, root-linked, wrong-pair, some-pair-wrong};
 use crate::Cabinet;
+use crate::Pair;
 use crate::Sheet;
 use crate::Stream;
 use crate::records::read_cabinet;
+use crate::records::read_pair;
 use crate::records::read_service;
 use crate::records::read_stream;
-use crate::records::word;
 
 fn is_cabinet_too_high(k: Cabinet) -> bool
     ensures { λ r. ⌜ r ≡ cabinet-too-high k ⌝ }
@@ -44,6 +45,12 @@ fn is_linked(k: Cabinet) -> bool
     ensures { λ r. ⌜ r ≡ linked k ⌝ }
 {
     k.up_capacity != 0 || k.up_price != 0 || k.down_capacity != 0 || k.down_price != 0
+}
+
+fn is_wrong_pair(services: usize, cabinets: usize, p: Pair) -> bool
+    ensures { λ r. ⌜ r ≡ wrong-pair services cabinets p ⌝ }
+{
+    services <= p.service || cabinets <= p.cabinet
 }
 
 fn any_service_too_high(block: &[u8], count: usize) -> bool
@@ -118,17 +125,28 @@ fn any_ends_wrong(block: &[u8], services: usize, count: usize) -> bool
     false
 }
 
-// Refusal 2.
-pub(crate) fn is_beyond_limits(bytes: &[u8], sheet: Sheet) -> bool
-    requires { ⌜ 16 ≤ length (now bytes) ⌝ }
-    ensures { λ r. ⌜ r ≡ beyond-limits sheet (now (bytes .entry)) ⌝ }
+fn any_pair_wrong(block: &[u8], services: usize, cabinets: usize, count: usize) -> bool
+    requires { ⌜ 2 + 4 * count ≤ length (now block) ⌝ }
+    ensures { λ r. ⌜ r ≡ any-below count (λ n. wrong-pair services cabinets (pair-in (now (block .entry)) n)) ⌝ }
 {
-    let eighth = word(bytes, 14);
+    let mut n = 0;
+    while n < count {
+        if is_wrong_pair(services, cabinets, read_pair(block, n)) {
+            return true;
+        }
+        n += 1;
+    }
+    false
+}
+
+// Refusal 2.
+pub(crate) fn is_beyond_limits(sheet: Sheet) -> bool
+    ensures { λ r. ⌜ r ≡ beyond-limits sheet ⌝ }
+{
     Sheet::MAX_SERVICES < sheet.services
         || sheet.cabinets < 1
         || Sheet::MAX_CABINETS < sheet.cabinets
         || Sheet::MAX_STREAMS < sheet.streams
-        || eighth != 0
 }
 
 // Refusal 6. Each block is handed on as the part of the sheet that starts at its offset.
@@ -170,4 +188,13 @@ pub(crate) fn is_root_linked(bytes: &[u8], sheet: Sheet) -> bool
 {
     let at = sheet.cabinets_at;
     is_linked(read_cabinet(&bytes[at..], 0))
+}
+
+// Refusal 19.
+pub(crate) fn is_pair_wrong(bytes: &[u8], sheet: Sheet) -> bool
+    requires { ⌜ PairsInside sheet (length (now bytes)) ⌝ }
+    ensures { λ r. ⌜ r ≡ some-pair-wrong sheet (now (bytes .entry)) ⌝ }
+{
+    let at = sheet.pairs_at;
+    any_pair_wrong(&bytes[at..], sheet.services, sheet.cabinets, sheet.pairs)
 }

@@ -1,26 +1,30 @@
 // The reader of planning sheets: any bytes get the counts and records of a sheet, or one refusal.
 ghost use mathlib.Core.Path.{_≡_};
+ghost use Prim.Native.Nat.{_≤_};
 ghost use lib.ListN.{length, drop};
 ghost use Rattle.sheet.specs.Inner.Within.{Bounded, Inside};
-ghost use Rattle.sheet.specs.Layout.{header};
+ghost use Rattle.sheet.specs.Layout.{header-size, header};
 ghost use Rattle.sheet.specs.Reading.{rules, answered, reading};
-ghost use Rattle.sheet.specs.Records.{service-record, cabinet-record, stream-record};
+ghost use Rattle.sheet.specs.Records.{service-record, cabinet-record, stream-record, pair-record};
 ghost use Rattle.sheet.specs.Refusals.{number-of, group-of, first-applying};
 
-mod blocks; // blocks.rt: where the three blocks lie
-mod conditions; // conditions.rt: the conditions of refusals 6 to 9 over all records
+mod blocks; // blocks.rt: where the four blocks lie
+mod conditions; // conditions.rt: the limits, and the conditions of refusals 6 to 9 and 19 over all records
 mod records; // records.rt: words, the header, and one record of a block
 
 use blocks::any_outside;
 use blocks::any_share;
+use blocks::is_pairs_block_wrong;
 use conditions::is_amount_too_high;
 use conditions::is_beyond_limits;
 use conditions::is_end_wrong;
+use conditions::is_pair_wrong;
 use conditions::is_parent_wrong;
 use conditions::is_root_linked;
 use records::is_there;
 use records::read_cabinet;
 use records::read_header;
+use records::read_pair;
 use records::read_service;
 use records::read_stream;
 use records::word;
@@ -41,6 +45,8 @@ pub struct Sheet {
     services_at: usize,
     cabinets_at: usize,
     streams_at: usize,
+    pairs: usize,
+    pairs_at: usize,
 }
 
 // What reading answers.
@@ -71,6 +77,12 @@ pub struct Stream {
     pub demand: u64,
 }
 
+// The service is barred from the cabinet.
+pub struct Pair {
+    pub service: usize,
+    pub cabinet: usize,
+}
+
 pub enum ServiceRecord {
     Given(Service),
     Missing,
@@ -86,6 +98,11 @@ pub enum StreamRecord {
     Missing,
 }
 
+pub enum PairRecord {
+    Given(Pair),
+    Missing,
+}
+
 // Reads a sheet: accepted exactly when no refusal applies, else refused with the first that applies. Here 1 to 3.
 pub fn read(bytes: &[u8]) -> Reading
     ensures { λ r. ⌜ r ≡ reading (now (bytes .entry)) ⌝ }
@@ -94,7 +111,7 @@ pub fn read(bytes: &[u8]) -> Reading
         return Reading::Refused(Refusal::SheetWriter(1));
     }
     let sheet = read_header(bytes);
-    if is_beyond_limits(bytes, sheet) {
+    if is_beyond_limits(sheet) {
         return Reading::Refused(Refusal::SheetWriter(2));
     }
     if word(bytes, 12) as usize != bytes.len() {
@@ -105,7 +122,7 @@ pub fn read(bytes: &[u8]) -> Reading
 
 // Refusals 4 and 5, where 1 to 3 do not apply.
 fn read_blocks(bytes: &[u8], sheet: Sheet) -> Reading
-    requires { ⌜ (sheet ≡ header (now bytes)) × Bounded sheet ⌝ }
+    requires { ⌜ (sheet ≡ header (now bytes)) × Bounded sheet × (header-size ≤ length (now bytes)) ⌝ }
     ensures { λ r. ⌜ r ≡ answered (first-applying (drop 3 (rules (now (bytes .entry))))) sheet ⌝ }
 {
     if any_outside(sheet, bytes.len()) {
@@ -119,7 +136,7 @@ fn read_blocks(bytes: &[u8], sheet: Sheet) -> Reading
 
 // Refusals 6 to 9, where 1 to 5 do not apply.
 fn read_records(bytes: &[u8], sheet: Sheet) -> Reading
-    requires { ⌜ (sheet ≡ header (now bytes)) × Inside sheet (length (now bytes)) ⌝ }
+    requires { ⌜ (sheet ≡ header (now bytes)) × Inside sheet (length (now bytes)) × Bounded sheet × (header-size ≤ length (now bytes)) ⌝ }
     ensures { λ r. ⌜ r ≡ answered (first-applying (drop 5 (rules (now (bytes .entry))))) sheet ⌝ }
 {
     if is_amount_too_high(bytes, sheet) {
@@ -133,6 +150,20 @@ fn read_records(bytes: &[u8], sheet: Sheet) -> Reading
     }
     if is_root_linked(bytes, sheet) {
         return Reading::Refused(Refusal::SheetWriter(9));
+    }
+    read_pairs(bytes, sheet)
+}
+
+// Refusals 18 and 19, where 1 to 9 do not apply.
+fn read_pairs(bytes: &[u8], sheet: Sheet) -> Reading
+    requires { ⌜ (sheet ≡ header (now bytes)) × Bounded sheet × (header-size ≤ length (now bytes)) ⌝ }
+    ensures { λ r. ⌜ r ≡ answered (first-applying (drop 9 (rules (now (bytes .entry))))) sheet ⌝ }
+{
+    if is_pairs_block_wrong(sheet, bytes.len()) {
+        return Reading::Refused(Refusal::SheetWriter(18));
+    }
+    if is_pair_wrong(bytes, sheet) {
+        return Reading::Refused(Refusal::SheetWriter(19));
     }
     Reading::Accepted(sheet)
 }
@@ -169,6 +200,8 @@ impl Sheet {
 
     pub const MAX_STREAMS: usize = 100;
 
+    pub const MAX_PAIRS: usize = 2000;
+
     pub const MAX_AMOUNT: u64 = 10000;
 
     // Bytes of the header, and of one record of each kind.
@@ -179,6 +212,11 @@ impl Sheet {
     const CABINET: usize = 14;
 
     const STREAM: usize = 6;
+
+    const PAIR: usize = 4;
+
+    // Bytes of the count before the pairs.
+    const COUNT: usize = 2;
 
     pub fn services(self) -> usize
         ensures { λ n. ⌜ n ≡ self .services ⌝ }
@@ -196,6 +234,12 @@ impl Sheet {
         ensures { λ n. ⌜ n ≡ self .streams ⌝ }
     {
         self.streams
+    }
+
+    pub fn pairs(self) -> usize
+        ensures { λ n. ⌜ n ≡ self .pairs ⌝ }
+    {
+        self.pairs
     }
 
     // Service i; nothing where the sheet has none, or the bytes end before it does.
@@ -229,5 +273,19 @@ impl Sheet {
             return StreamRecord::Given(read_stream(&bytes[at..], j));
         }
         StreamRecord::Missing
+    }
+
+    // Barred pair n, in the same way.
+    pub fn pair(self, bytes: &[u8], n: usize) -> PairRecord
+        ensures { λ r. ⌜ r ≡ pair-record self (now (bytes .entry)) n ⌝ }
+    {
+        let at = self.pairs_at;
+        if bytes.len() < at {
+            return PairRecord::Missing;
+        }
+        if is_there(self.pairs, Sheet::PAIR, Sheet::COUNT, bytes.len() - at, n) {
+            return PairRecord::Given(read_pair(&bytes[at..], n));
+        }
+        PairRecord::Missing
     }
 }

@@ -3,8 +3,9 @@ ghost use mathlib.Core.Path.{_≡_};
 ghost use Prim.Native.Nat.{_+_, _*_, _≤_, _<_};
 ghost use lib.ListN.{length};
 ghost use Rattle.sheet.specs.Records.{there};
-ghost use Rattle.sheet.specs.Layout.{word-at, header, service-in, cabinet-in, stream-in};
+ghost use Rattle.sheet.specs.Layout.{word-at, header-size, pairs-count, header, service-in, cabinet-in, stream-in, pair-in};
 use crate::Cabinet;
+use crate::Pair;
 use crate::Service;
 use crate::Sheet;
 use crate::Stream;
@@ -25,11 +26,27 @@ pub(crate) fn word(part: &[u8], at: usize) -> u64
     low + 256 * high
 }
 
+// The count that the fourth block starts with, 0 where there is none or it does not lie within the bytes.
+fn read_count(bytes: &[u8], at: usize) -> usize
+    requires { ⌜ at < 65536 ⌝ }
+    ensures { λ r. ⌜ (r ≡ pairs-count at (now (bytes .entry))) × (r < 65536) ⌝ }
+{
+    if at == 0 {
+        return 0;
+    }
+    if bytes.len() < at + Sheet::COUNT {
+        return 0;
+    }
+    word(&bytes[at..], 0) as usize
+}
+
 // The counts and the offsets.
 pub(crate) fn read_header(bytes: &[u8]) -> Sheet
-    requires { ⌜ 16 ≤ length (now bytes) ⌝ }
-    ensures { λ r. ⌜ (r ≡ header (now (bytes .entry))) × (r .«services_at» < 65536) × (r .«cabinets_at» < 65536) × (r .«streams_at» < 65536) ⌝ }
+    requires { ⌜ header-size ≤ length (now bytes) ⌝ }
+    ensures { λ r. ⌜ (r ≡ header (now (bytes .entry))) × (r .«services_at» < 65536) × (r .«cabinets_at» < 65536) × (r .«streams_at» < 65536) × (r .pairs < 65536) × (r .«pairs_at» < 65536) ⌝ }
 {
+    let pairs_at = word(bytes, 14) as usize;
+    let pairs = read_count(bytes, pairs_at);
     Sheet {
         services: word(bytes, 0) as usize,
         cabinets: word(bytes, 2) as usize,
@@ -37,6 +54,8 @@ pub(crate) fn read_header(bytes: &[u8]) -> Sheet
         services_at: word(bytes, 6) as usize,
         cabinets_at: word(bytes, 8) as usize,
         streams_at: word(bytes, 10) as usize,
+        pairs: pairs,
+        pairs_at: pairs_at,
     }
 }
 
@@ -74,6 +93,17 @@ pub(crate) fn read_stream(block: &[u8], j: usize) -> Stream
         from: word(block, at) as usize,
         to: word(block, at + 2) as usize,
         demand: word(block, at + 4),
+    }
+}
+
+pub(crate) fn read_pair(block: &[u8], n: usize) -> Pair
+    requires { ⌜ 4 * n + 6 ≤ length (now block) ⌝ }
+    ensures { λ r. ⌜ r ≡ pair-in (now (block .entry)) n ⌝ }
+{
+    let at = Sheet::PAIR * n;
+    Pair {
+        service: word(block, at + 2) as usize,
+        cabinet: word(block, at + 4) as usize,
     }
 }
 

@@ -1,11 +1,11 @@
 -- Every worked case holds, by computation from the definitions.
 use mathlib.Core.Path.{refl}
 use Rattle.finite.specs.Below.{_⇒_, only, sum-below, all-below, any-below, sum-over}
-use Rattle.sheet.specs.Layout.{header, service-in, cabinet-in, stream-in, service, cabinet, stream}
-use Rattle.sheet.specs.Conditions.{beyond-limits, outside, some-block-outside, holds, share, some-blocks-share, cabinet-too-high, some-amount-too-high, wrong-parent, some-parent-wrong, wrong-ends, some-ends-wrong, linked, root-linked}
+use Rattle.sheet.specs.Layout.{pairs-count, header, service-in, cabinet-in, stream-in, pair-in, service, cabinet, stream, pair}
+use Rattle.sheet.specs.Conditions.{beyond-limits, outside, some-block-outside, holds, share, some-blocks-share, cabinet-too-high, some-amount-too-high, wrong-parent, some-parent-wrong, wrong-ends, some-ends-wrong, linked, root-linked, shared-by-pairs, pairs-block-wrong, wrong-pair, some-pair-wrong}
 use Rattle.sheet.specs.Refusals.{refusal, first-applying}
 use Rattle.sheet.specs.Reading as reader
-use Rattle.sheet.specs.Instance.{instance}
+use Rattle.sheet.specs.Instance.{names, some-names, instance}
 use Rattle.embedding.specs.Definition1.{member}
 use Rattle.embedding.specs.Road.{up, down, lower, by-way, edge-price}
 use Rattle.subsets.specs.Costs.{lesser, least-below, provided}
@@ -13,11 +13,11 @@ use Rattle.subsets.specs.Sets.{has, subset}
 use Rattle.subsets.specs.Tree.{climb, under, part}
 use Rattle.embedding.specs.Splits.{stands, keeps, placeable, weighed}
 use Rattle.planner.specs.Answers.{planned}
-use Rattle.embedding.specs.Plan.{path-within, path, routes, digit, valid, worth, cheapest, demand-of, fits, admits, link-fits, fee, weight, carried, link-keeps, in-range, cabinets-keep, links-keep, cabinets-cost, links-cost, plan-cost}
+use Rattle.embedding.specs.Plan.{path-within, path, routes, digit, valid, worth, cheapest, demand-of, fits, unbarred, admits, link-fits, fee, weight, carried, link-keeps, in-range, bars-keep, cabinets-keep, links-keep, cabinets-cost, links-cost, plan-cost}
 use Rattle.checker.specs.Check as checks
 use Rattle.theorems.specs.Cases.{AllHold, cases}
 
 pub cases-hold : AllHold cases
-unfolding _⇒_ only sum-below all-below any-below sum-over header service-in cabinet-in stream-in service cabinet stream beyond-limits outside some-block-outside holds share some-blocks-share cabinet-too-high some-amount-too-high wrong-parent some-parent-wrong wrong-ends some-ends-wrong linked root-linked refusal first-applying reader.rules reader.answered reader.reading instance member up down lower by-way edge-price path-within path routes demand-of fits admits link-fits fee weight carried link-keeps in-range cabinets-keep links-keep cabinets-cost links-cost plan-cost checks.rules checks.answered checks.plan-checked checks.checked-after checks.checked lesser least-below provided has subset climb under part stands keeps placeable weighed planned digit valid worth cheapest
+unfolding _⇒_ only sum-below all-below any-below sum-over pairs-count header service-in cabinet-in stream-in pair-in service cabinet stream pair beyond-limits outside some-block-outside holds share some-blocks-share cabinet-too-high some-amount-too-high wrong-parent some-parent-wrong wrong-ends some-ends-wrong linked root-linked shared-by-pairs pairs-block-wrong wrong-pair some-pair-wrong refusal first-applying reader.rules reader.answered reader.reading names some-names instance member up down lower by-way edge-price path-within path routes demand-of fits unbarred admits link-fits fee weight carried link-keeps in-range bars-keep cabinets-keep links-keep cabinets-cost links-cost plan-cost checks.rules checks.answered checks.plan-checked checks.checked-after checks.checked lesser least-below provided has subset climb under part stands keeps placeable weighed planned digit valid worth cheapest
 cases-hold =
-    (refl, (refl, (refl, (refl, (refl, (refl, (refl, (refl, (refl, (refl, (refl, (refl, (refl, (refl, (refl, tt)))))))))))))))
+    (refl, (refl, (refl, (refl, (refl, (refl, (refl, (refl, (refl, (refl, (refl, (refl, (refl, (refl, (refl, (refl, (refl, (refl, (refl, (refl, (refl, (refl, (refl, (refl, (refl, (refl, (refl, (refl, (refl, (refl, (refl, (refl, (refl, (refl, (refl, (refl, (refl, (refl, (refl, (refl, tt))))))))))))))))))))))))))))))))))))))))

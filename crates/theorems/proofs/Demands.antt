@@ -16,7 +16,7 @@ use lib.ListN.{length, take}
 use Rattle.sheet.specs.Reading as reader
 use Rattle.sheet.specs.Reading.{reading}
 use Rattle.sheet.specs.Instance.{instance}
-use Rattle.sheet.specs.Refusals.{refusal, number-of, giving, first-of, in-order}
+use Rattle.sheet.specs.Refusals.{number-of, giving, first-of, in-order}
 use Rattle.sheet.specs.declared.Sheet.{Sheet}
 use Rattle.sheet.specs.declared.Refusal.{Refusal}
 use Rattle.sheet.specs.declared.Reading.the-variants as readings
@@ -45,12 +45,12 @@ use Rattle.theorems.specs.Promised.{Given, Maps, NoneCheaper, Best, Left
 
 -- ---- Demand 1
 
--- Any bytes, with any memory lent, get a plan or one refusal from 1 to 12; it stands in the group of its number, and only 12 has a count.
+-- Any bytes, with any memory lent, get a plan or one refusal, from 1 to 12, 18 or 19; it stands in the group of its number, and only 12 has a count.
 -- (`planner::plan`, clause `answer`.)
 pub demand-1 :
     (bytes : List ℕ) (output costs choices : ℕ) →
     ((k : ℕ) × (n : ℕ) × (planned bytes output costs choices ≡ Plan k n))
-    ⊎ ((f : Refusal) × (n : ℕ) × (planned bytes output costs choices ≡ Refused f n) × Given 1 12 f × ((number-of f ≡ 12 → ⊥) → n ≡ 0))
+    ⊎ ((f : Refusal) × (n : ℕ) × (planned bytes output costs choices ≡ Refused f n) × Given plan.plan-numbers f × ((number-of f ≡ 12 → ⊥) → n ≡ 0))
 demand-1 = planning.answered
 
 -- After a plan and after 12 the first s × 2^r entries of both tables are 0 and all others stay; after any other refusal both tables are as they
@@ -64,23 +64,20 @@ pub demand-1-memory :
     Left (instance bytes) a output costs choices output' costs' choices'
 demand-1-memory = planning.left
 
--- Any bytes and any plan get an answer of the check: a cost below 10^15, or one refusal from 1 to 9 or from 13 to 16 in the group of its number.
+-- Any bytes and any plan get an answer of the check: a cost below 10^15, or one refusal, from 1 to 9, from 13 to 16, or from 18 to 20, in the group of
+-- its number.
 -- (`checker::check`.)
 pub demand-1-check :
     (bytes plan : List ℕ) →
     ((k : ℕ) × (checked bytes plan ≡ answers.Accepted k) × (k < 10 ^ 15))
-    ⊎ ((f : Refusal) × (checked bytes plan ≡ answers.Refused f) × (Given 1 9 f ⊎ Given 13 16 f))
+    ⊎ ((f : Refusal) × (checked bytes plan ≡ answers.Refused f) × Given check.check-numbers f)
 demand-1-check bytes plan = go (checked bytes plan) refl
   where
-    bounds : (f : Refusal) → f ≡ refusal (number-of f) → ((1 ≤ number-of f) × (number-of f ≤ 9)) ⊎ ((13 ≤ number-of f) × (number-of f ≤ 16)) → Given 1 9 f ⊎ Given 13 16 f
-    bounds f g (inl b) = inl (record { grouped = g; least = b .0; most = b .1 })
-    bounds f g (inr b) = inr (record { grouped = g; least = b .0; most = b .1 })
-
     go : (r : Checked) → checked bytes plan ≡ r →
         ((k : ℕ) × (checked bytes plan ≡ answers.Accepted k) × (k < 10 ^ 15))
-        ⊎ ((f : Refusal) × (checked bytes plan ≡ answers.Refused f) × (Given 1 9 f ⊎ Given 13 16 f))
+        ⊎ ((f : Refusal) × (checked bytes plan ≡ answers.Refused f) × Given check.check-numbers f)
     go (answers.Accepted k) e = inl (k, e, cost-low bytes plan k e)
-    go (answers.Refused f) e = inr (f, e, bounds f (right-group bytes plan f e) (check-number bytes plan f e))
+    go (answers.Refused f) e = inr (f, e, record { grouped = right-group bytes plan f e; listed = check-number bytes plan f e })
 
 -- ---- The order of giving
 

@@ -4,22 +4,23 @@ use native.Mathlib.Omega.{arith}
 use mathlib.Core.Logic.{_↔_, _⊎_, inl, inr}
 use mathlib.Core.Path.{_≡_, refl, sym, ap, _∙_, subst}
 use mathlib.Core.Bool.{Bool, true, false, cond}
-use mathlib.Core.List.{List, _++_}
+use mathlib.Core.List.{List, [], _∷_, _++_}
 use lib.ListN.{length, getD, take, drop, replicate, length-append, length-replicate, getD-replicate, length-drop, List·getD-append}
 use lib.Seq.{length-take-le, getD-take, getD-append-add, getD-drop}
 use borrow.Author.Tests.{eqb-true}
+use Rattle.finite.proofs.Booleans.{clash}
 use Rattle.subsets.specs.Costs.{Cost, none, some}
 use Rattle.subsets.specs.Inner.Count.{triples, pairs}
 use Rattle.subsets.proofs.Count.{triples-le}
 use Rattle.subsets.proofs.Provided.{provided-some}
 use Rattle.sheet.specs.Instance.{Instance, WellFormed, instance}
-use Rattle.sheet.specs.Refusals.{first-applying, refusal, number-of}
-use Rattle.sheet.specs.Reading.{reading}
+use Rattle.sheet.specs.Refusals.{one-of, first-applying, refusal, number-of}
+use Rattle.sheet.specs.Reading.{reader-numbers, reading}
 use Rattle.sheet.specs.declared.Sheet.{Sheet}
 use Rattle.sheet.specs.declared.Refusal.{Refusal}
 use Rattle.sheet.specs.declared.Reading.{Reading}
 use Rattle.sheet.specs.declared.Reading.the-variants as readings
-use Rattle.sheet.proofs.Groups.{number-refusal, own-group, reading-group, first-between, reading-number}
+use Rattle.sheet.proofs.Groups.{number-refusal, own-group, reading-group, one-of-left, first-listed, reading-number}
 use Rattle.sheet.proofs.Promises.{well-formed}
 use Rattle.embedding.specs.Definition1.{Feasible}
 use Rattle.embedding.specs.Limits.{Limits}
@@ -29,7 +30,7 @@ use Rattle.embedding.specs.Splits.{placeable, weighed}
 use Rattle.embedding.proofs.Services.{worth-ext}
 use Rattle.embedding.proofs.Theorems.{cheapest-mapping, cheapest-none}
 use Rattle.planner.specs.Answers as plans
-use Rattle.planner.specs.Answers.{number, entries, lender-rules, Enough, solved, lent, planned}
+use Rattle.planner.specs.Answers.{number, entries, lender-rules, Enough, plan-numbers, solved, lent, planned}
 use Rattle.planner.specs.Lent.{used, table-after, OutputAfter}
 use Rattle.planner.specs.declared.Planned.{Planned}
 use Rattle.planner.specs.declared.Planned.the-variants.{Plan, Refused}
@@ -38,48 +39,41 @@ use Rattle.theorems.specs.Promised.{Given, Best, Cleared, Written, Left}
 
 -- ---- the number of a refusal
 
-given : (low high n : ℕ) → low ≤ n → n ≤ high → Given low high (refusal n)
-given low high n l h =
-    record {
-      grouped = own-group (refusal n) n refl;
-      least = subst (λ (m : ℕ). low ≤ m) (sym (number-refusal n)) l;
-      most = subst (λ (m : ℕ). m ≤ high) (sym (number-refusal n)) h;
-    }
+given : (n : ℕ) → one-of plan-numbers n ≡ true → Given plan-numbers (refusal n)
+given n l = record { grouped = own-group (refusal n) n refl; listed = ap (one-of plan-numbers) (number-refusal n) ∙ l }
 
--- the reader's refusals are 1 to 9
-reader-given : (bytes : List ℕ) (f : Refusal) → reading bytes ≡ readings.Refused f → Given 1 9 f
+-- the reader's refusals are the planner's
+reader-given : (bytes : List ℕ) (f : Refusal) → reading bytes ≡ readings.Refused f → Given plan-numbers f
 reader-given bytes f e =
-    let n = reading-number bytes f e in
-    record { grouped = reading-group bytes f e; least = n .0; most = n .1 }
+    record {
+      grouped = reading-group bytes f e;
+      listed = one-of-left reader-numbers (10 ∷ 11 ∷ 12 ∷ []) (number-of f) (reading-number bytes f e);
+    }
 
 -- ---- every answer of the planner
 
--- a plan, or one refusal from 1 to 12 in its own group, with a count only where it is 12
+-- a plan, or one of the planner's refusals in its own group, with a count only where it is 12
 abbrev pub Answered : Planned → Type 0
 Answered a =
     ((k : ℕ) × (n : ℕ) × (a ≡ Plan k n))
-    ⊎ ((f : Refusal) × (n : ℕ) × (a ≡ Refused f n) × Given 1 12 f × ((number-of f ≡ 12 → ⊥) → n ≡ 0))
-
-wider : (f : Refusal) → Given 1 9 f → Given 1 12 f
-wider f g = record { grouped = g .grouped; least = g .least; most = let h : number-of f ≤ 9 = g .most in omega arith }
+    ⊎ ((f : Refusal) × (n : ℕ) × (a ≡ Refused f n) × Given plan-numbers f × ((number-of f ≡ 12 → ⊥) → n ≡ 0))
 
 solved-answered : (c : Cost) (n : ℕ) → Answered (solved c n)
 solved-answered none n =
-    inr (refusal 12, n, refl, given 1 12 12 (omega arith) (omega arith), λ h. absurd (h (number-refusal 12)))
+    inr (refusal 12, n, refl, given 12 refl, λ h. absurd (h (number-refusal 12)))
 solved-answered (some k) n = inl (k, n, refl)
 
 lent-answered : (I : Instance) (output costs choices m : ℕ) → first-applying (lender-rules I output costs choices) ≡ m → Answered (lent m I)
 lent-answered I output costs choices zero e = solved-answered (cheapest I) (weighed I)
 lent-answered I output costs choices (suc n) e =
-    let b = first-between 10 11 (lender-rules I output costs choices) refl n e in
-    inr (refusal (suc n), 0, refl, given 1 12 (suc n) (omega (arith, b .0)) (omega (arith, b .1)), λ h. refl)
+    inr (refusal (suc n), 0, refl, given (suc n) (first-listed (one-of plan-numbers) (lender-rules I output costs choices) refl n e), λ h. refl)
 
 pub answered : (bytes : List ℕ) (output costs choices : ℕ) → Answered (planned bytes output costs choices)
 unfolding planned
 answered bytes output costs choices = go (reading bytes) refl
   where
     go : (r : Reading) → reading bytes ≡ r → Answered (plans.answered r (instance bytes) output costs choices)
-    go (readings.Refused f) e = inr (f, 0, refl, wider f (reader-given bytes f e), λ h. refl)
+    go (readings.Refused f) e = inr (f, 0, refl, reader-given bytes f e, λ h. refl)
     go (readings.Accepted h) e =
         lent-answered (instance bytes) output costs choices (first-applying (lender-rules (instance bytes) output costs choices)) refl
 
@@ -108,12 +102,12 @@ used-solved bytes output costs choices u = go (reading bytes) refl u
     lender : (h : Sheet) → reading bytes ≡ readings.Accepted h → (m : ℕ) → first-applying (lender-rules (instance bytes) output costs choices) ≡ m → used (lent m (instance bytes)) ≡ true → Solved bytes output costs choices
     lender h e zero q u = record { sheet = h; reads = e; enough = q }
     lender h e (suc n) q u =
-        let b = first-between 10 11 (lender-rules (instance bytes) output costs choices) refl n q in
-        absurd (omega (arith, number-refusal (suc n), eqb-true (number-of (refusal (suc n))) 12 u, b .1))
+        clash (sym (first-listed (one-of (10 ∷ 11 ∷ [])) (lender-rules (instance bytes) output costs choices) refl n q)
+        ∙ ap (one-of (10 ∷ 11 ∷ [])) (sym (number-refusal (suc n)) ∙ eqb-true (number-of (refusal (suc n))) 12 u))
 
     go : (r : Reading) → reading bytes ≡ r → used (plans.answered r (instance bytes) output costs choices) ≡ true → Solved bytes output costs choices
     go (readings.Accepted h) e u = lender h e (first-applying (lender-rules (instance bytes) output costs choices)) refl u
-    go (readings.Refused f) e u = absurd (omega (arith, eqb-true (number-of f) 12 u, reader-given bytes f e .most))
+    go (readings.Refused f) e u = clash (sym (reading-number bytes f e) ∙ ap (one-of reader-numbers) (eqb-true (number-of f) 12 u))
 
 -- the cheapest cost is the one answered
 pub plan-cheapest : (bytes : List ℕ) (output costs choices k n : ℕ) → planned bytes output costs choices ≡ Plan k n →

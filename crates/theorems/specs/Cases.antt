@@ -1,11 +1,13 @@
--- The worked cases of 01's "Measured roads" that are proved: for each call on the bytes of a sheet, the answer expected.
-use Prim.Native.Nat.{ℕ, _/_, _%_, _^_}
+-- The worked cases that are proved, 01's "Measured roads" and those of 02: for each call on the bytes of a sheet, the answer expected.
+use Prim.Native.Nat.{ℕ, _+_, _*_, _/_, _%_, _^_}
 use mathlib.Core.Bool.{Bool, true, _&&_}
 use mathlib.Core.Path.{_≡_}
 use mathlib.Core.List.{List, [], _∷_}
 use lib.Dec.{eqb}
+use lib.ListN.{length}
 use Rattle.finite.specs.Below.{_⇒_, all-below}
 use Rattle.sheet.specs.Refusals.{refusal}
+use Rattle.sheet.specs.Reading.{reading, number}
 use Rattle.sheet.specs.Instance.{Instance, instance}
 use Rattle.embedding.specs.Plan.{digit, valid, plan-cost}
 use Rattle.checker.specs.Check.{checked}
@@ -22,6 +24,8 @@ from-words (w ∷ ws) = w % 256 ∷ w / 256 ∷ from-words ws
 
 -- a call, what it is given, and what it is to answer
 pub data Case : Type 0 where
+  -- the reader, of bytes: the refusal's number, 0 for none
+  read : List ℕ → ℕ → Case
   -- the check, of bytes and a plan
   check : List ℕ → List ℕ → Checked → Case
   -- the planner, of bytes, with memory that just suffices
@@ -42,6 +46,7 @@ all-put I k i c =
 
 -- the definitions give the answer expected
 abbrev pub Holds : Case → Type 0
+Holds (read bytes n) = number (reading bytes) ≡ n
 Holds (check bytes places answer) = checked bytes places ≡ answer
 Holds (plan bytes answer) = answer-to bytes ≡ answer
 Holds (plan-costs bytes k) = cost (answer-to bytes) ≡ k
@@ -52,20 +57,35 @@ abbrev pub AllHold : List Case → Type 0
 AllHold [] = Unit {0}
 AllHold (x ∷ xs) = Holds x × AllHold xs
 
--- road M with a capacity for its root and an up capacity for cabinet 1: two services, two children of the root, and a stream of 3
-abbrev pub road : ℕ → ℕ → List ℕ
-road root up =
+-- road M with a capacity for its root, an up capacity for cabinet 1, and a fourth block at an offset, of these words, after all else:
+-- two services, two children of the root, and a stream of 3
+abbrev pub road-barring : ℕ → ℕ → ℕ → List ℕ → List ℕ
+road-barring root up at block =
     from-words (
-    2 ∷ 3 ∷ 1 ∷ 16 ∷ 20 ∷ 62 ∷ 68 ∷ 0
+    2 ∷ 3 ∷ 1 ∷ 16 ∷ 20 ∷ 62 ∷ (68 + 2 * length block) ∷ at
     ∷ 2 ∷ 2
     ∷ 65535 ∷ root ∷ 5 ∷ 0 ∷ 0 ∷ 0 ∷ 0
     ∷ 0 ∷ 3 ∷ 1 ∷ up ∷ 2 ∷ 6 ∷ 1
     ∷ 0 ∷ 3 ∷ 2 ∷ 2 ∷ 1 ∷ 6 ∷ 1
-    ∷ 0 ∷ 1 ∷ 3 ∷ []
+    ∷ 0 ∷ 1 ∷ 3 ∷ block
     )
+
+-- without a fourth block
+abbrev pub road : ℕ → ℕ → List ℕ
+road root up = road-barring root up 0 []
 
 abbrev pub road-m : List ℕ
 road-m = road 4 6
+
+-- road M with a fourth block; with (0,0) barred, and with service 0 barred from every cabinet
+abbrev pub m-with : ℕ → List ℕ → List ℕ
+m-with = road-barring 4 6
+
+abbrev pub m-barred : List ℕ
+m-barred = m-with 68 (1 ∷ 0 ∷ 0 ∷ [])
+
+abbrev pub m-nowhere : List ℕ
+m-nowhere = m-with 68 (3 ∷ 0 ∷ 0 ∷ 0 ∷ 1 ∷ 0 ∷ 2 ∷ [])
 
 -- road Z: M0 with a third service of demand 0, and streams of 3 from it to each of the others
 abbrev pub road-z : List ℕ
@@ -108,4 +128,34 @@ cases =
     ∷ plan-costs road-z 12
     ∷ puts road-z 12 2 0
     ∷ plan one-child (plans.Plan 3 3)
+    ∷ check m-barred (0 ∷ 1 ∷ []) (Refused (refusal 20))
+    ∷ check m-barred (1 ∷ 2 ∷ []) (Accepted 15)
+    ∷ plan m-barred (plans.Plan 15 15)
+    ∷ puts m-barred 15 0 1
+    ∷ puts m-barred 15 1 2
+    ∷ plan m-nowhere (plans.Refused (refusal 12) 12)
+    -- a block of no pairs; one pair, also twice, and after a gap
+    ∷ read (m-with 68 (0 ∷ [])) 0
+    ∷ read (m-with 68 (1 ∷ 1 ∷ 2 ∷ [])) 0
+    ∷ read (m-with 68 (2 ∷ 0 ∷ 0 ∷ 0 ∷ 0 ∷ [])) 0
+    ∷ read (m-with 70 (7 ∷ 1 ∷ 0 ∷ 0 ∷ [])) 0
+    -- a block in the header; at the length, one byte before it, and far past it; pairs that end past it; too many pairs
+    ∷ read (m-with 1 []) 18
+    ∷ read (m-with 15 []) 18
+    ∷ read (m-with 68 []) 18
+    ∷ read (m-with 67 []) 18
+    ∷ read (m-with 65535 []) 18
+    ∷ read (m-with 68 (2 ∷ 0 ∷ 0 ∷ [])) 18
+    ∷ read (m-with 68 (2001 ∷ [])) 18
+    -- on the services; on a cabinet and the stream; no pairs, and the first byte is the last of the stream
+    ∷ read (m-with 18 []) 18
+    ∷ read (m-with 60 []) 18
+    ∷ read (m-with 67 (0 ∷ [])) 18
+    -- a pair that names no service, or no cabinet, also the last of two
+    ∷ read (m-with 68 (1 ∷ 2 ∷ 0 ∷ [])) 19
+    ∷ read (m-with 68 (1 ∷ 0 ∷ 3 ∷ [])) 19
+    ∷ read (m-with 68 (2 ∷ 1 ∷ 2 ∷ 1 ∷ 3 ∷ [])) 19
+    -- 18 before 19, and 6 before 18
+    ∷ read (m-with 68 (2 ∷ 9 ∷ 9 ∷ [])) 18
+    ∷ read (road-barring 10001 6 68 (2 ∷ 9 ∷ 9 ∷ [])) 6
     ∷ []

@@ -5,7 +5,7 @@ use mathlib.Core.Path.{_≡_}
 use mathlib.Core.Bool.{true, false}
 use mathlib.Core.List.{List}
 use lib.ListN.{length, getD}
-use Rattle.sheet.specs.Refusals.{refusal, number-of}
+use Rattle.sheet.specs.Refusals.{one-of, refusal, number-of}
 use Rattle.sheet.specs.Instance.{Instance}
 use Rattle.sheet.specs.declared.Refusal.{Refusal}
 use Rattle.embedding.specs.Definition1.{Feasible, cost}
@@ -17,11 +17,10 @@ use Rattle.planner.specs.Lent.{used}
 use Rattle.planner.specs.declared.Planned.{Planned}
 use Rattle.planner.specs.declared.Planned.the-variants.{Plan, Refused}
 
--- the refusal stands in the group of its number, and the number lies between two
-pub record Given (low high : ℕ) (f : Refusal) : Type 0 where
+-- the refusal stands in the group of its number, and the number is one of these
+pub record Given (numbers : List ℕ) (f : Refusal) : Type 0 where
   pub grouped : f ≡ refusal (number-of f)
-  pub least : low ≤ number-of f
-  pub most : number-of f ≤ high
+  pub listed : one-of numbers (number-of f) ≡ true
 
 -- with some paths, of any make, π is a mapping that is feasible by Definition 1, keeps the limits, and costs k
 abbrev pub Maps : Instance → (ℕ → ℕ) → ℕ → Type 0

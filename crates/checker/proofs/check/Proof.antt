@@ -3,6 +3,7 @@ use Prim.Native.Nat.{ℕ}
 use mathlib.Core.Path.{_≡_, sym, ap, _∙_, subst}
 use borrow.Author.Needs.{needs}
 use lib.ListN.{length}
+use mathlib.Core.Bool.{true}
 use mathlib.Core.List.{List}
 use borrow.Author.Tests.{not-true, not-false}
 use Rattle.sheet.specs.Reading.{reading}
@@ -12,7 +13,7 @@ use Rattle.sheet.specs.declared.Reading.the-variants as readings
 use Rattle.sheet.proofs.Promises as promises
 use Rattle.records.specs.declared.Records.{Records}
 use Rattle.records.specs.Told.{told}
-use Rattle.embedding.specs.Plan.{place, in-range}
+use Rattle.embedding.specs.Plan.{place, in-range, bars-keep}
 use Rattle.checker.specs.Inner.Records.{Placed}
 use Rattle.checker.proofs.Deciding as deciding
 use Rattle.checker.proofs.check.Statement.{statement}
@@ -85,9 +86,13 @@ read-of c = c .before .before
 abbrev sized-of : tie.After-is-in-range → tie.Else1
 sized-of c = c .before .before
 
--- after the test of the cabinets: all places are in range
-abbrev ranged-of : tie.After-are-cabinets-kept → tie.Else2
+-- after the test of the bars: all places are in range
+abbrev ranged-of : tie.After-are-bars-kept → tie.Else2
 ranged-of c = c .before .before
+
+-- after the test of the cabinets: no service is barred from its cabinet
+abbrev unbarred-of : tie.After-are-cabinets-kept → tie.Else3
+unbarred-of c = c .before
 
 -- the plan's places
 places : (c : tie.Else1) → let a = read-of (c .before) in length (plan-of a) ≡ inst a .r
@@ -129,29 +134,45 @@ returns-4 c =
     let a = read-of (s .before) in
     deciding.out-of-range (bytes-of a) (plan-of a) (sheet a) (reads a) (inst a) (same a) (places s) (sym (range-is (c .before)) ∙ not-true _ (c .if2 .taken))
 
-are-cabinets-kept-requires : tie.Need-are-cabinets-kept-requires
-are-cabinets-kept-requires c κs = placed (c .before)
+are-bars-kept-requires : tie.Need-are-bars-kept-requires
+are-bars-kept-requires c κs = search needs
 
 returns-5 : tie.Need-returns-5
 returns-5 c =
-    let k = c .before in
-    let a = read-of (sized-of (ranged-of k .before) .before) in
-    let p = placed (ranged-of k) in
-    deciding.cabinet-overfull (bytes-of a) (plan-of a) (sheet a) (reads a) (inst a) (same a) (p .places) (p .range) (sym (k .are-cabinets-kept .ensures) ∙ not-true _ (c .if3 .taken))
+    let b = c .before in
+    let a = read-of (sized-of (ranged-of b .before) .before) in
+    let p = placed (ranged-of b) in
+    deciding.barred-place (bytes-of a) (plan-of a) (sheet a) (reads a) (inst a) (same a) (p .places) (p .range) (sym (b .are-bars-kept .ensures) ∙ not-true _ (c .if3 .taken))
 
-cabinets-cost-requires : tie.Need-cabinets-cost-requires
-cabinets-cost-requires c κs = placed (ranged-of (c .before))
+-- no service is barred from its cabinet
+bars : (c : tie.Else3) → let a = read-of (sized-of (ranged-of (c .before) .before) .before) in bars-keep (inst a) (place (plan-of a)) ≡ true
+bars c = sym (c .before .are-bars-kept .ensures) ∙ not-false _ (c .if3 .left)
 
-walk-links-requires : tie.Need-walk-links-requires
-walk-links-requires c κs = (placed (ranged-of (c .before .before)), c .cabinets-cost .ensures)
+are-cabinets-kept-requires : tie.Need-are-cabinets-kept-requires
+are-cabinets-kept-requires c κs = placed (ranged-of (c .before))
 
 returns-6 : tie.Need-returns-6
 returns-6 c =
+    let k = c .before in
+    let u = unbarred-of k in
+    let a = read-of (sized-of (ranged-of (u .before) .before) .before) in
+    let p = placed (ranged-of (u .before)) in
+    deciding.cabinet-overfull (bytes-of a) (plan-of a) (sheet a) (reads a) (inst a) (same a) (p .places) (p .range) (bars u) (sym (k .are-cabinets-kept .ensures) ∙ not-true _ (c .if4 .taken))
+
+cabinets-cost-requires : tie.Need-cabinets-cost-requires
+cabinets-cost-requires c κs = placed (ranged-of (unbarred-of (c .before) .before))
+
+walk-links-requires : tie.Need-walk-links-requires
+walk-links-requires c κs = (placed (ranged-of (unbarred-of (c .before .before) .before)), c .cabinets-cost .ensures)
+
+returns-7 : tie.Need-returns-7
+returns-7 c =
     let k = c .before .before .before in
-    let a = read-of (sized-of (ranged-of k .before) .before) in
-    let p = placed (ranged-of k) in
+    let u = unbarred-of k in
+    let a = read-of (sized-of (ranged-of (u .before) .before) .before) in
+    let p = placed (ranged-of (u .before)) in
     c .walk-links .ensures
-    ∙ deciding.by-walk (bytes-of a) (plan-of a) (sheet a) (reads a) (inst a) (same a) (p .places) (p .range) (sym (k .are-cabinets-kept .ensures) ∙ not-false _ (c .before .before .if3 .left))
+    ∙ deciding.by-walk (bytes-of a) (plan-of a) (sheet a) (reads a) (inst a) (same a) (p .places) (p .range) (bars u) (sym (k .are-cabinets-kept .ensures) ∙ not-false _ (c .before .before .if4 .left))
 
 pub check-spec : {M : Type 1} → statement M
 check-spec =
@@ -169,8 +190,10 @@ check-spec =
     cabinets-requires
     is-in-range-requires
     returns-4
-    are-cabinets-kept-requires
+    are-bars-kept-requires
     returns-5
+    are-cabinets-kept-requires
+    returns-6
     cabinets-cost-requires
     walk-links-requires
-    returns-6)
+    returns-7)

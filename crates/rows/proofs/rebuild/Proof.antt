@@ -9,10 +9,11 @@ use mathlib.Core.Bool.{Bool, true, false, not}
 use Rattle.finite.proofs.Booleans.{clash, both, both-l}
 use Rattle.rows.specs.Rebuilds.{source, Rebuilds, RebuildRoom, Scratch, JoinsChild, has-rows}
 use Rattle.rows.proofs.Guards.{Passed, passed, scratch, in-tables, left-alone, rebuilt}
-use Rattle.rows.specs.declared.Node.{Node}
+use Rattle.rows.specs.declared.Own.{Own}
+use Rattle.rows.specs.declared.Link.{Link}
 use Rattle.rows.specs.Charges.{own-figure, demanded}
 use Rattle.rows.proofs.Parted.{put-row, row-length}
-use Rattle.rows.proofs.Rebuilding.{node-there, Children, Alone, field-at, alone, rebuilds-alone, children-start, children-pass, children-join, joinable, row-room, count-le}
+use Rattle.rows.proofs.Rebuilding.{own-there, link-there, Children, Alone, field-at, alone, rebuilds-alone, children-start, children-pass, children-join, joinable, row-room, count-le}
 use Rattle.rows.proofs.rebuild.Statement.{statement}
 use Rattle.rows.proofs.rebuild.Tie as tie
 
@@ -24,52 +25,52 @@ abbrev μ-loop : tie.MeasureT-loop
 
 -- the nodes of the function that its needs reach back to
 abbrev sets-of-before-fill-own-arg : tie.After-fill-own-arg Inv-loop μ-loop → tie.After-sets-of Inv-loop μ-loop
-sets-of-before-fill-own-arg c = c .before .before .before .before .before .before .before .before .before
+sets-of-before-fill-own-arg c = c .before .before .before .before .before .before
 
 abbrev start-before-fill-own-arg : tie.After-fill-own-arg Inv-loop μ-loop → tie.Start Inv-loop μ-loop
-start-before-fill-own-arg c = c .before .before .before .before .before .before .before .before .before .before .before .before .before .before .before .before .before .before .before
+start-before-fill-own-arg c = c .before .before .before .before .before .before .before .before .before .before .before .before .before .before .before .before
 
 abbrev sets-of-before-join-child-arg4 : tie.After-join-child-arg4 Inv-loop μ-loop → tie.After-sets-of Inv-loop μ-loop
-sets-of-before-join-child-arg4 c = c .before .before .before .before .before .before .before .before .before .before .before .before .before .before .before .before .before .before .before .before .before .before .before .before .before .before .before .before .before
+sets-of-before-join-child-arg4 c = c .before .before .before .before .before .before .before .before .before .before .before .before .before .before .before .before .before .before .before .before .before .before .before .before
 
 abbrev slice-known5-before-join-child-arg4 : tie.After-join-child-arg4 Inv-loop μ-loop → tie.After-slice-known5 Inv-loop μ-loop
-slice-known5-before-join-child-arg4 c = c .before .before .before .before .before .before .before .before .before .before .before .before .before .before .before .before .before
+slice-known5-before-join-child-arg4 c = c .before .before .before .before .before .before .before .before .before .before .before .before .before .before .before
 
 abbrev at-loop-before-join-child-arg4 : tie.After-join-child-arg4 Inv-loop μ-loop → tie.At-loop Inv-loop μ-loop
-at-loop-before-join-child-arg4 c = c .before .before .before .before .before .before .before .before .before .before .before .before .before .before .before .before
+at-loop-before-join-child-arg4 c = c .before .before .before .before .before .before .before .before .before .before .before .before .before .before
 
 abbrev in-loop-before-join-child-arg4 : tie.After-join-child-arg4 Inv-loop μ-loop → tie.In-loop Inv-loop μ-loop
-in-loop-before-join-child-arg4 c = c .before .before .before .before .before .before .before .before .before .before .before .before .before .before .before
+in-loop-before-join-child-arg4 c = c .before .before .before .before .before .before .before .before .before .before .before .before .before
 
 abbrev start-before-join-child-arg4 : tie.After-join-child-arg4 Inv-loop μ-loop → tie.Start Inv-loop μ-loop
-start-before-join-child-arg4 c = c .before .before .before .before .before .before .before .before .before .before .before .before .before .before .before .before .before .before .before .before .before .before .before .before .before .before .before .before .before .before .before .before .before .before .before .before .before .before .before
+start-before-join-child-arg4 c = c .before .before .before .before .before .before .before .before .before .before .before .before .before .before .before .before .before .before .before .before .before .before .before .before .before .before .before .before .before .before .before .before .before .before
 
 abbrev fill-own-before-loop : tie.After-loop Inv-loop μ-loop → tie.After-fill-own Inv-loop μ-loop
 fill-own-before-loop c = c .before .before .before .before
 
 abbrev sets-of-before-loop : tie.After-loop Inv-loop μ-loop → tie.After-sets-of Inv-loop μ-loop
-sets-of-before-loop c = c .before .before .before .before .before .before .before .before .before .before .before .before .before .before
+sets-of-before-loop c = c .before .before .before .before .before .before .before .before .before .before .before
 
 abbrev slice-known5-before-loop : tie.After-loop Inv-loop μ-loop → tie.After-slice-known5 Inv-loop μ-loop
 slice-known5-before-loop c = c .before .before
 
 abbrev start-before-loop : tie.After-loop Inv-loop μ-loop → tie.Start Inv-loop μ-loop
-start-before-loop c = c .before .before .before .before .before .before .before .before .before .before .before .before .before .before .before .before .before .before .before .before .before .before .before .before
+start-before-loop c = c .before .before .before .before .before .before .before .before .before .before .before .before .before .before .before .before .before .before .before .before .before
 
-abbrev sets-of-before-node-at : tie.After-node-at Inv-loop μ-loop → tie.After-sets-of Inv-loop μ-loop
-sets-of-before-node-at c = c .before .before .before .before .before .before .before .before
+abbrev sets-of-before-own-at : tie.After-own-at Inv-loop μ-loop → tie.After-sets-of Inv-loop μ-loop
+sets-of-before-own-at c = c .before .before .before .before .before
 
-abbrev start-before-node-at : tie.After-node-at Inv-loop μ-loop → tie.Start Inv-loop μ-loop
-start-before-node-at c = c .before .before .before .before .before .before .before .before .before .before .before .before .before .before .before .before .before .before
+abbrev start-before-own-at : tie.After-own-at Inv-loop μ-loop → tie.Start Inv-loop μ-loop
+start-before-own-at c = c .before .before .before .before .before .before .before .before .before .before .before .before .before .before .before
 
-abbrev sets-of-before-node-at-arg12 : tie.After-node-at-arg12 Inv-loop μ-loop → tie.After-sets-of Inv-loop μ-loop
-sets-of-before-node-at-arg12 c = c .before .before .before .before .before .before .before .before .before .before .before .before .before .before .before .before .before .before .before .before .before .before .before .before
+abbrev sets-of-before-link-at-arg4 : tie.After-link-at-arg4 Inv-loop μ-loop → tie.After-sets-of Inv-loop μ-loop
+sets-of-before-link-at-arg4 c = c .before .before .before .before .before .before .before .before .before .before .before .before .before .before .before .before .before .before .before
 
-abbrev in-loop-before-node-at-arg12 : tie.After-node-at-arg12 Inv-loop μ-loop → tie.In-loop Inv-loop μ-loop
-in-loop-before-node-at-arg12 c = c .before .before .before .before .before .before .before .before .before .before
+abbrev in-loop-before-link-at-arg4 : tie.After-link-at-arg4 Inv-loop μ-loop → tie.In-loop Inv-loop μ-loop
+in-loop-before-link-at-arg4 c = c .before .before .before .before .before .before .before .before
 
-abbrev sets-of-before-node-at-arg6 : tie.After-node-at-arg6 Inv-loop μ-loop → tie.After-sets-of Inv-loop μ-loop
-sets-of-before-node-at-arg6 c = c .before .before .before .before .before .before .before
+abbrev sets-of-before-own-at-arg3 : tie.After-own-at-arg3 Inv-loop μ-loop → tie.After-sets-of Inv-loop μ-loop
+sets-of-before-own-at-arg3 c = c .before .before .before .before
 
 abbrev are-rows-before-sets-of : tie.After-sets-of Inv-loop μ-loop → tie.After-are-rows Inv-loop μ-loop
 are-rows-before-sets-of c = c .before .before .before .before
@@ -86,44 +87,44 @@ start-before-sets-of c = c .before .before .before .before .before .before .befo
 abbrev fill-own-before-slice-known5 : tie.After-slice-known5 Inv-loop μ-loop → tie.After-fill-own Inv-loop μ-loop
 fill-own-before-slice-known5 c = c .before .before
 
-abbrev node-at-before-slice-known5 : tie.After-slice-known5 Inv-loop μ-loop → tie.After-node-at Inv-loop μ-loop
-node-at-before-slice-known5 c = c .before .before .before .before
+abbrev own-at-before-slice-known5 : tie.After-slice-known5 Inv-loop μ-loop → tie.After-own-at Inv-loop μ-loop
+own-at-before-slice-known5 c = c .before .before .before .before
 
 abbrev sets-of-before-slice-known5 : tie.After-slice-known5 Inv-loop μ-loop → tie.After-sets-of Inv-loop μ-loop
-sets-of-before-slice-known5 c = c .before .before .before .before .before .before .before .before .before .before .before .before
+sets-of-before-slice-known5 c = c .before .before .before .before .before .before .before .before .before
 
 abbrev start-before-slice-known5 : tie.After-slice-known5 Inv-loop μ-loop → tie.Start Inv-loop μ-loop
-start-before-slice-known5 c = c .before .before .before .before .before .before .before .before .before .before .before .before .before .before .before .before .before .before .before .before .before .before
+start-before-slice-known5 c = c .before .before .before .before .before .before .before .before .before .before .before .before .before .before .before .before .before .before .before
 
 abbrev fill-own-before-slice-known9 : tie.After-slice-known9 Inv-loop μ-loop → tie.After-fill-own Inv-loop μ-loop
-fill-own-before-slice-known9 c = c .before .before .before .before .before .before .before .before .before .before .before .before .before .before .before .before .before .before .before .before .before .before .before .before .before .before .before .before
+fill-own-before-slice-known9 c = c .before .before .before .before .before .before .before .before .before .before .before .before .before .before .before .before .before .before .before .before .before .before .before .before .before .before
 
 abbrev index-before-slice-known9 : tie.After-slice-known9 Inv-loop μ-loop → tie.After-index Inv-loop μ-loop
-index-before-slice-known9 c = c .before .before .before .before .before .before .before .before .before .before .before .before .before .before .before .before .before .before .before .before .before .before
+index-before-slice-known9 c = c .before .before .before .before .before .before .before .before .before .before .before .before .before .before .before .before .before .before .before .before
 
 abbrev join-child-before-slice-known9 : tie.After-slice-known9 Inv-loop μ-loop → tie.After-join-child Inv-loop μ-loop
 join-child-before-slice-known9 c = c .before .before .before .before .before .before .before .before
 
-abbrev node-at2-before-slice-known9 : tie.After-slice-known9 Inv-loop μ-loop → tie.After-node-at2 Inv-loop μ-loop
-node-at2-before-slice-known9 c = c .before .before .before .before .before .before .before .before .before .before .before .before .before
+abbrev link-at-before-slice-known9 : tie.After-slice-known9 Inv-loop μ-loop → tie.After-link-at Inv-loop μ-loop
+link-at-before-slice-known9 c = c .before .before .before .before .before .before .before .before .before .before .before .before .before
 
 abbrev sets-of-before-slice-known9 : tie.After-slice-known9 Inv-loop μ-loop → tie.After-sets-of Inv-loop μ-loop
-sets-of-before-slice-known9 c = c .before .before .before .before .before .before .before .before .before .before .before .before .before .before .before .before .before .before .before .before .before .before .before .before .before .before .before .before .before .before .before .before .before .before .before .before .before .before
+sets-of-before-slice-known9 c = c .before .before .before .before .before .before .before .before .before .before .before .before .before .before .before .before .before .before .before .before .before .before .before .before .before .before .before .before .before .before .before .before .before
 
 abbrev slice-known5-before-slice-known9 : tie.After-slice-known9 Inv-loop μ-loop → tie.After-slice-known5 Inv-loop μ-loop
-slice-known5-before-slice-known9 c = c .before .before .before .before .before .before .before .before .before .before .before .before .before .before .before .before .before .before .before .before .before .before .before .before .before .before
+slice-known5-before-slice-known9 c = c .before .before .before .before .before .before .before .before .before .before .before .before .before .before .before .before .before .before .before .before .before .before .before .before
 
 abbrev at-loop-before-slice-known9 : tie.After-slice-known9 Inv-loop μ-loop → tie.At-loop Inv-loop μ-loop
-at-loop-before-slice-known9 c = c .before .before .before .before .before .before .before .before .before .before .before .before .before .before .before .before .before .before .before .before .before .before .before .before .before
+at-loop-before-slice-known9 c = c .before .before .before .before .before .before .before .before .before .before .before .before .before .before .before .before .before .before .before .before .before .before .before
 
 abbrev else3-before-slice-known9 : tie.After-slice-known9 Inv-loop μ-loop → tie.Else3 Inv-loop μ-loop
-else3-before-slice-known9 c = c .before .before .before .before .before .before .before .before .before .before .before .before .before .before .before .before .before .before .before .before .before
+else3-before-slice-known9 c = c .before .before .before .before .before .before .before .before .before .before .before .before .before .before .before .before .before .before .before
 
 abbrev in-loop-before-slice-known9 : tie.After-slice-known9 Inv-loop μ-loop → tie.In-loop Inv-loop μ-loop
-in-loop-before-slice-known9 c = c .before .before .before .before .before .before .before .before .before .before .before .before .before .before .before .before .before .before .before .before .before .before .before .before
+in-loop-before-slice-known9 c = c .before .before .before .before .before .before .before .before .before .before .before .before .before .before .before .before .before .before .before .before .before .before
 
 abbrev start-before-slice-known9 : tie.After-slice-known9 Inv-loop μ-loop → tie.Start Inv-loop μ-loop
-start-before-slice-known9 c = c .before .before .before .before .before .before .before .before .before .before .before .before .before .before .before .before .before .before .before .before .before .before .before .before .before .before .before .before .before .before .before .before .before .before .before .before .before .before .before .before .before .before .before .before .before .before .before .before
+start-before-slice-known9 c = c .before .before .before .before .before .before .before .before .before .before .before .before .before .before .before .before .before .before .before .before .before .before .before .before .before .before .before .before .before .before .before .before .before .before .before .before .before .before .before .before .before .before .before
 
 abbrev are-rows-before-else2 : tie.Else2 Inv-loop μ-loop → tie.After-are-rows Inv-loop μ-loop
 are-rows-before-else2 c = c .before .before .before
@@ -135,7 +136,7 @@ abbrev start-before-else2 : tie.Else2 Inv-loop μ-loop → tie.Start Inv-loop μ
 start-before-else2 c = c .before .before .before .before .before .before .before .before .before
 
 abbrev sets-of-before-in-loop : tie.In-loop Inv-loop μ-loop → tie.After-sets-of Inv-loop μ-loop
-sets-of-before-in-loop c = c .before .before .before .before .before .before .before .before .before .before .before .before .before .before
+sets-of-before-in-loop c = c .before .before .before .before .before .before .before .before .before .before .before
 
 abbrev start-before-then1 : tie.Then1 Inv-loop μ-loop → tie.Start Inv-loop μ-loop
 start-before-then1 c = c .before .before .before .before .before .before .before
@@ -153,7 +154,7 @@ abbrev in-loop-before-then3 : tie.Then3 Inv-loop μ-loop → tie.In-loop Inv-loo
 in-loop-before-then3 c = c .before .before .before
 
 abbrev start-before-then3 : tie.Then3 Inv-loop μ-loop → tie.Start Inv-loop μ-loop
-start-before-then3 c = c .before .before .before .before .before .before .before .before .before .before .before .before .before .before .before .before .before .before .before .before .before .before .before .before .before .before .before
+start-before-then3 c = c .before .before .before .before .before .before .before .before .before .before .before .before .before .before .before .before .before .before .before .before .before .before .before .before
 
 -- a test that failed, and one that passed
 failed : (b : Bool) → not b ≡ true → b ≡ true → ⊥
@@ -193,19 +194,19 @@ room c = in-tables (start-before-sets-of c .args .t5) (start-before-sets-of c .a
 spare : (c : tie.After-sets-of Inv-loop μ-loop) → Scratch (c .sets-of .result) (start-before-sets-of c .args .child .now) (start-before-sets-of c .args .link .now) (start-before-sets-of c .args .sums .now)
 spare c = scratch (c .sets-of .result) (start-before-sets-of c .args .child .now) (start-before-sets-of c .args .link .now) (start-before-sets-of c .args .sums .now) (room c .sets) (tested c .room)
 
-node-at-requires : tie.Need-node-at-requires Inv-loop μ-loop
-node-at-requires c κs =
-    let R = room (sets-of-before-node-at-arg6 c) in
+own-at-requires : tie.Need-own-at-requires Inv-loop μ-loop
+own-at-requires c κs =
+    let R = room (sets-of-before-own-at-arg3 c) in
     omega (arith, R .cabinet, R .cabinets)
 
 mul-at : tie.Need-mul-at Inv-loop μ-loop
-mul-at c = omega (arith, row-room ((room (sets-of-before-node-at c))) (start-before-node-at c .args .p) (room (sets-of-before-node-at c) .cabinet))
+mul-at c = omega (arith, row-room ((room (sets-of-before-own-at c))) (start-before-own-at c .args .p) (room (sets-of-before-own-at c) .cabinet))
 
 add-end : tie.Need-add-end Inv-loop μ-loop
-add-end c = omega (arith, row-room ((room (sets-of-before-node-at c))) (start-before-node-at c .args .p) (room (sets-of-before-node-at c) .cabinet))
+add-end c = omega (arith, row-room ((room (sets-of-before-own-at c))) (start-before-own-at c .args .p) (room (sets-of-before-own-at c) .cabinet))
 
 mul-fill-own : tie.Need-mul-fill-own Inv-loop μ-loop
-mul-fill-own c = omega (arith, row-room ((room (sets-of-before-node-at c))) (start-before-node-at c .args .p) (room (sets-of-before-node-at c) .cabinet))
+mul-fill-own c = omega (arith, row-room ((room (sets-of-before-own-at c))) (start-before-own-at c .args .p) (room (sets-of-before-own-at c) .cabinet))
 
 sub-fill-own : tie.Need-sub-fill-own Inv-loop μ-loop
 sub-fill-own c = search needs
@@ -214,7 +215,7 @@ part-fill-own-start : tie.Need-part-fill-own-start Inv-loop μ-loop
 part-fill-own-start c = search needs
 
 part-fill-own-end : tie.Need-part-fill-own-end Inv-loop μ-loop
-part-fill-own-end c = omega (arith, row-room ((room (sets-of-before-node-at c))) (start-before-node-at c .args .p) (room (sets-of-before-node-at c) .cabinet))
+part-fill-own-end c = omega (arith, row-room ((room (sets-of-before-own-at c))) (start-before-own-at c .args .p) (room (sets-of-before-own-at c) .cabinet))
 
 fill-own-requires : tie.Need-fill-own-requires Inv-loop μ-loop
 fill-own-requires c κs =
@@ -226,7 +227,7 @@ fill-own-requires c κs =
 -- its own charges stand in it
 charged : (c : tie.After-slice-known5 Inv-loop μ-loop)
     → Alone (start-before-slice-known5 c .args .t5) (sets-of-before-slice-known5 c .sets-of .result) (start-before-slice-known5 c .args .p) (start-before-slice-known5 c .args .sums .now) (start-before-slice-known5 c .args .costs .now) (put-row (sets-of-before-slice-known5 c .sets-of .result) (start-before-slice-known5 c .args .p) (start-before-slice-known5 c .args .costs .now) (fill-own-before-slice-known5 c .fill-own .last .0)) (start-before-slice-known5 c .args .choices .now)
-charged c = let F = fill-own-before-slice-known5 c .fill-own in alone ((room (sets-of-before-slice-known5 c))) (F .last .0) (F .kept .0) (λ x h. F .ensures x h ∙ ap (λ (k : Node). own-figure k (demanded (start-before-slice-known5 c .args .sums .now) x)) (node-at-before-slice-known5 c .node-at .ensures ∙ node-there (start-before-slice-known5 c .args .t5) (start-before-slice-known5 c .args .p) (room (sets-of-before-slice-known5 c) .cabinet)))
+charged c = let F = fill-own-before-slice-known5 c .fill-own in alone ((room (sets-of-before-slice-known5 c))) (F .last .0) (F .kept .0) (λ x h. F .ensures x h ∙ ap (λ (k : Own). own-figure k x (demanded (start-before-slice-known5 c .args .sums .now) x)) (own-at-before-slice-known5 c .own-at .ensures ∙ own-there (start-before-slice-known5 c .args .t5) (start-before-slice-known5 c .args .p) (room (sets-of-before-slice-known5 c) .cabinet)))
 
 add-c : tie.Need-add-c Inv-loop μ-loop
 add-c c = omega (arith, room (sets-of-before-slice-known5 c) .cabinets, room (sets-of-before-slice-known5 c) .cabinet)
@@ -252,8 +253,8 @@ loop-less c = omega (arith, in-loop-before-then3 c .loop-test .taken)
 loop-again : tie.Need-loop-again Inv-loop μ-loop
 loop-again c = (children-pass (start-before-then3 c .args .sums .now) (charged (slice-known5-before-then3 c) .room) (at-loop-before-then3 c .loop .inv .0) (in-loop-before-then3 c .loop-test .taken) (λ e. c .if3 .taken (c .before .index .ensures .0 ∙ sym (field-at (start-before-then3 c .args .t5 .cabinets) (start-before-then3 c .args .t5 .parent) (at-loop-before-then3 c .loop .c) (in-loop-before-then3 c .loop-test .taken)) ∙ e)), at-loop-before-then3 c .loop .inv .1, at-loop-before-then3 c .loop .inv .2)
 
-node-at-requires-2 : tie.Need-node-at-requires-2 Inv-loop μ-loop
-node-at-requires-2 c κs = omega (arith, in-loop-before-node-at-arg12 c .loop-test .taken, room (sets-of-before-node-at-arg12 c) .cabinets)
+link-at-requires : tie.Need-link-at-requires Inv-loop μ-loop
+link-at-requires c κs = omega (arith, in-loop-before-link-at-arg4 c .loop-test .taken, room (sets-of-before-link-at-arg4 c) .cabinets)
 
 join-child-requires : tie.Need-join-child-requires Inv-loop μ-loop
 join-child-requires c κs =
@@ -275,7 +276,7 @@ turn : (c : tie.After-slice-known9 Inv-loop μ-loop)
 turn c =
     let J = join-child-before-slice-known9 c .join-child in
     children-join (start-before-slice-known9 c .args .sums .now) (charged (slice-known5-before-slice-known9 c) .room) (at-loop-before-slice-known9 c .loop .inv .0) (in-loop-before-slice-known9 c .loop-test .taken) (field-at (start-before-slice-known9 c .args .t5 .cabinets) (start-before-slice-known9 c .args .t5 .parent) (at-loop-before-slice-known9 c .loop .c) (in-loop-before-slice-known9 c .loop-test .taken) ∙ sym (index-before-slice-known9 c .index .ensures .0) ∙ else3-before-slice-known9 c .if3 .left)
-    (subst (λ (k : Node). JoinsChild k (sets-of-before-slice-known9 c .sets-of .result) (start-before-slice-known9 c .args .p) (at-loop-before-slice-known9 c .loop .c) (start-before-slice-known9 c .args .sums .now) (at-loop-before-slice-known9 c .loop .costs) (J .last .0) (at-loop-before-slice-known9 c .loop .choices) (J .last .1 .0) (J .result)) (node-at2-before-slice-known9 c .node-at2 .ensures ∙ node-there (start-before-slice-known9 c .args .t5) (at-loop-before-slice-known9 c .loop .c) (in-loop-before-slice-known9 c .loop-test .taken)) (J .ensures)) (J .kept .0) (J .kept .1 .0)
+    (subst (λ (k : Link). JoinsChild k (sets-of-before-slice-known9 c .sets-of .result) (start-before-slice-known9 c .args .p) (at-loop-before-slice-known9 c .loop .c) (start-before-slice-known9 c .args .sums .now) (at-loop-before-slice-known9 c .loop .costs) (J .last .0) (at-loop-before-slice-known9 c .loop .choices) (J .last .1 .0) (J .result)) (link-at-before-slice-known9 c .link-at .ensures ∙ link-there (start-before-slice-known9 c .args .t5) (at-loop-before-slice-known9 c .loop .c) (in-loop-before-slice-known9 c .loop-test .taken)) (J .ensures)) (J .kept .0) (J .kept .1 .0)
 
 add-count : tie.Need-add-count Inv-loop μ-loop
 add-count c =
@@ -322,7 +323,7 @@ rebuild-spec =
     is-roomy-requires
     returns-2
     sets-of-requires
-    node-at-requires
+    own-at-requires
     mul-at
     add-end
     mul-fill-own
@@ -338,7 +339,7 @@ rebuild-spec =
     index-requires
     loop-less
     loop-again
-    node-at-requires-2
+    link-at-requires
     join-child-requires
     add-count
     loop-less-2

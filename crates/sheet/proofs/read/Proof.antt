@@ -1,5 +1,4 @@
 -- `read` answers refusal 1, 2 or 3, or what the blocks give.
-use Rattle.sheet.specs.declared.Sheet.{Sheet}
 use mathlib.Core.Path.{_≡_, sym, ap, _∙_}
 use mathlib.Core.Bool.{true, false, not}
 use Prim.Native.Nat.{ℕ}
@@ -31,8 +30,8 @@ past1 c = pass _ _ (le-ltb _ _ (c .if1 .left))
 past2 : (c : lts.Else2 claims reads.Pre reads.Post) → first-applying (rules (c .before .before .before .before .before .args .bytes .now)) ≡ first-applying (drop 2 (rules (c .before .before .before .before .before .args .bytes .now)))
 unfolding rules
 past2 c =
-    let e : beyond-limits (header (c .before .before .before .before .before .args .bytes .now)) (c .before .before .before .before .before .args .bytes .now) ≡ false =
-    sym (c .before .is-beyond-limits .ensures ∙ ap (λ (h : Sheet). beyond-limits h (c .before .before .before .before .before .args .bytes .now)) (c .before .before .read-header .ensures .0)) ∙ c .if2 .left in
+    let e : beyond-limits (header (c .before .before .before .before .before .args .bytes .now)) ≡ false =
+    sym (c .before .is-beyond-limits .ensures ∙ ap beyond-limits (c .before .before .read-header .ensures .0)) ∙ c .if2 .left in
     past1 (c .before .before .before) ∙ pass _ _ e
 
 past3 : (c : lts.Else3 claims reads.Pre reads.Post) → first-applying (rules (c .before .before .before .before .before .before .before .args .bytes .now)) ≡ first-applying (drop 3 (rules (c .before .before .before .before .before .before .before .args .bytes .now)))
@@ -53,8 +52,8 @@ is-beyond-limits-requires c κs = search needs
 returns-2 : tie.Need-returns-2
 unfolding reading answered rules refusal
 returns-2 c =
-    let e : beyond-limits (header (c .before .before .before .before .before .args .bytes .now)) (c .before .before .before .before .before .args .bytes .now) ≡ true =
-    sym (c .before .is-beyond-limits .ensures ∙ ap (λ (h : Sheet). beyond-limits h (c .before .before .before .before .before .args .bytes .now)) (c .before .before .read-header .ensures .0)) ∙ c .if2 .taken in
+    let e : beyond-limits (header (c .before .before .before .before .before .args .bytes .now)) ≡ true =
+    sym (c .before .is-beyond-limits .ensures ∙ ap beyond-limits (c .before .before .read-header .ensures .0)) ∙ c .if2 .taken in
     sym (ap (λ (n : ℕ). answered n (header (c .before .before .before .before .before .args .bytes .now))) (past1 (c .before .before .before) ∙ stop _ _ e))
 
 word-requires : tie.Need-word-requires
@@ -70,10 +69,13 @@ read-blocks-requires : tie.Need-read-blocks-requires
 read-blocks-requires c κs = (
   c .before .before .before .before .read-header .ensures .0,
   bounded _
-      (counted _ _ (sym (c .before .before .before .is-beyond-limits .ensures) ∙ c .before .before .if2 .left))
+      (counted _ (sym (c .before .before .before .is-beyond-limits .ensures) ∙ c .before .before .if2 .left))
       (c .before .before .before .before .read-header .ensures .1)
       (c .before .before .before .before .read-header .ensures .2)
-      (c .before .before .before .before .read-header .ensures .3),
+      (c .before .before .before .before .read-header .ensures .3)
+      (c .before .before .before .before .read-header .ensures .4)
+      (c .before .before .before .before .read-header .ensures .5),
+  c .before .before .before .before .before .if1 .left,
 )
 
 returns-4 : tie.Need-returns-4

@@ -60,6 +60,8 @@ read-records-requires : tie.Need-read-records-requires
 read-records-requires c κs = (
   c .before .before .before .before .before .pre .0,
   inside _ _ (c .before .before .before .before .before .pre .1 .some-cabinet) (sym (c .before .before .before .any-outside .ensures) ∙ c .before .before .if1 .left),
+  c .before .before .before .before .before .pre .1,
+  c .before .before .before .before .before .pre .2,
 )
 
 returns-3 : tie.Need-returns-3

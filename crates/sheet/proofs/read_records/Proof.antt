@@ -1,4 +1,4 @@
--- `read_records` answers the first of refusals 6 to 9, or the sheet: each test that is passed leaves fewer.
+-- `read_records` answers the first of refusals 6 to 9, or what the pairs give: each test that is passed leaves fewer.
 use Rattle.sheet.specs.declared.Sheet.{Sheet}
 use mathlib.Core.Path.{_≡_, sym, ap, _∙_}
 use mathlib.Core.Bool.{true, false}
@@ -18,9 +18,10 @@ use Rattle.sheet.proofs.conditions.is_amount_too_high.Reads as is-amoun
 use Rattle.sheet.proofs.conditions.is_end_wrong.Reads as is-end-wrong-reads
 use Rattle.sheet.proofs.conditions.is_parent_wrong.Reads as is-parent-wrong-reads
 use Rattle.sheet.proofs.conditions.is_root_linked.Reads as is-root-linked-reads
+use Rattle.sheet.proofs.read_pairs.Reads as read-pairs-reads
 
 abbrev claims : lts.Claims
-claims = (is-amount-too-high-reads.Asked, is-amount-too-high-reads.Learnt, is-parent-wrong-reads.Asked, is-parent-wrong-reads.Learnt, is-end-wrong-reads.Asked, is-end-wrong-reads.Learnt, is-root-linked-reads.Asked, is-root-linked-reads.Learnt)
+claims = (is-amount-too-high-reads.Asked, is-amount-too-high-reads.Learnt, is-parent-wrong-reads.Asked, is-parent-wrong-reads.Learnt, is-end-wrong-reads.Asked, is-end-wrong-reads.Learnt, is-root-linked-reads.Asked, is-root-linked-reads.Learnt, read-pairs-reads.Asked, read-pairs-reads.Learnt)
 
 past1 : (c : lts.Else1 claims reads.Pre reads.Post) → first-applying (drop 5 (rules (c .before .before .before .args .bytes .now))) ≡ first-applying (drop 6 (rules (c .before .before .before .args .bytes .now)))
 unfolding rules
@@ -90,9 +91,11 @@ returns-4 c =
     sym (c .before .is-root-linked .ensures ∙ ap (λ (h : Sheet). root-linked h (c .before .before .before .before .before .before .before .before .before .args .bytes .now)) (c .before .before .before .before .before .before .before .before .before .pre .0)) ∙ c .if4 .taken in
     sym (ap (λ (n : ℕ). answered n (c .before .before .before .before .before .before .before .before .before .args .sheet)) (past3 (c .before .before) ∙ stop _ _ e))
 
+read-pairs-requires : tie.Need-read-pairs-requires
+read-pairs-requires c κs = (c .before .before .before .before .before .before .before .before .before .pre .0, c .before .before .before .before .before .before .before .before .before .pre .2, c .before .before .before .before .before .before .before .before .before .pre .3)
+
 returns-5 : tie.Need-returns-5
-unfolding rules first-applying answered
-returns-5 c = sym (ap (λ (n : ℕ). answered n (c .before .before .before .before .before .before .before .before .before .args .sheet)) (past4 c))
+returns-5 c = c .read-pairs .ensures ∙ sym (ap (λ (n : ℕ). answered n (c .before .before .before .before .before .before .before .before .before .before .args .sheet)) (past4 (c .before)))
 
 pub read-records-spec : {M : Type 1} → statement M
 read-records-spec =
@@ -106,4 +109,5 @@ read-records-spec =
     returns-3
     is-root-linked-requires
     returns-4
+    read-pairs-requires
     returns-5)

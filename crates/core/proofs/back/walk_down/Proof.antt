@@ -7,7 +7,7 @@ use lib.ListN.{length, set}
 use lib.Bits.{bitAnd, and-le-r}
 use Rattle.subsets.specs.Sets.{has}
 use native.Mathlib.Nat.{mul-le-mul}
-use Rattle.rows.specs.Nodes.{parent-of}
+use Rattle.rows.specs.Cabinets.{parent-of}
 use Rattle.rows.specs.Rebuilds.{entry}
 use Rattle.core.specs.Tables.{netted}
 use Rattle.rows.proofs.Parted.{row-within}

@@ -21,6 +21,9 @@ cabinets-requires c κs = search needs
 streams-requires : tie.Need-streams-requires
 streams-requires c κs = search needs
 
+pairs-requires : tie.Need-pairs-requires
+pairs-requires c κs = search needs
+
 enum-known-refusal : tie.Need-enum-known-refusal
 enum-known-refusal c = search needs
 
@@ -35,8 +38,8 @@ wide-requires c κs = search needs
 
 returns : tie.Need-returns
 returns c =
-    let e = sym (c .before .before .before .before .before .before .before .read .ensures) ∙ c .before .before .before .before .before .sheet .given .1 in
-    (sym (ap read-number e), simp (c .before .before .before .services .ensures, c .before .before .cabinets .ensures, c .before .streams .ensures) (sym (ap read-counts e)))
+    let e = sym (c .before .before .before .before .before .before .before .before .read .ensures) ∙ c .before .before .before .before .before .before .sheet .given .1 in
+    (sym (ap read-number e), simp (c .before .before .before .before .services .ensures, c .before .before .before .cabinets .ensures, c .before .before .streams .ensures, c .before .pairs .ensures) (sym (ap read-counts e)))
 
 returns-2 : tie.Need-returns-2
 returns-2 c =
@@ -52,6 +55,7 @@ gz-read-spec =
     services-requires
     cabinets-requires
     streams-requires
+    pairs-requires
     enum-known-refusal
     group-requires
     number-requires

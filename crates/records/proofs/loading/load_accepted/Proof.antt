@@ -1,9 +1,10 @@
--- `load_accepted` meets its contract: nothing, then the services, the cabinets and the streams are loaded.
+-- `load_accepted` meets its contract: nothing, then the services, the cabinets, the streams and what is barred are loaded.
 use borrow.Author.Needs.{needs}
 use mathlib.Core.Path.{_∙_}
 use Rattle.sheet.specs.Instance.{instance}
 use Rattle.sheet.proofs.Promises as promises
-use Rattle.records.proofs.Columns.{none-loaded, loaded}
+use Rattle.records.proofs.Columns.{none-loaded, with-barred, loaded}
+use Rattle.records.proofs.Bars.{all-barred}
 use Rattle.records.proofs.loading.load_accepted.Statement.{statement}
 use Rattle.records.proofs.loading.load_accepted.Tie as tie
 
@@ -13,6 +14,9 @@ cabinets-before-blank-records c = c .before .before
 
 abbrev services-before-blank-records : tie.After-blank-records → tie.After-services
 services-before-blank-records c = c .before .before .before
+
+abbrev start-before-barred-sets : tie.After-barred-sets → tie.Start
+start-before-barred-sets c = c .before .before .before .before .before .before .before .before .before
 
 services-requires : tie.Need-services-requires
 services-requires c κs = search needs
@@ -41,8 +45,14 @@ with-cabinets-requires c κs = search needs
 with-streams-requires : tie.Need-with-streams-requires
 with-streams-requires c κs = search needs
 
+barred-sets-requires : tie.Need-barred-sets-requires
+barred-sets-requires c κs = search needs
+
 returns : tie.Need-returns
-returns c = loaded _ _ (c .with-streams .ensures)
+returns c =
+    let s = start-before-barred-sets c in
+    let L = c .before .with-streams .ensures in
+    loaded (s .args .bytes .now) _ (with-barred L _) (all-barred (s .args .bytes .now) (s .args .sheet) (s .pre) _ (L .services) (L .cabinets) (c .barred-sets .ensures))
 
 pub load-accepted-spec : {M : Type 1} → statement M
 load-accepted-spec =
@@ -55,4 +65,5 @@ load-accepted-spec =
     with-services-requires
     with-cabinets-requires
     with-streams-requires
+    barred-sets-requires
     returns)

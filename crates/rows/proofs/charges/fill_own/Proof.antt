@@ -10,7 +10,7 @@ use Rattle.rows.proofs.charges.fill_own.Statement.{statement}
 use Rattle.rows.proofs.charges.fill_own.Tie as tie
 
 abbrev Inv-loop : tie.InvT-loop
-Inv-loop row₀ sums k x₀ row x = (x ≤ length row₀) × (length row ≡ length row₀) × ((d : ℕ) → d < x → getD row d 0 ≡ own-figure k (demanded sums d))
+Inv-loop row₀ sums k x₀ row x = (x ≤ length row₀) × (length row ≡ length row₀) × ((d : ℕ) → d < x → getD row d 0 ≡ own-figure k d (demanded sums d))
 
 abbrev μ-loop : tie.MeasureT-loop
 μ-loop row₀ sums k x₀ row x = length row₀ - x
@@ -50,7 +50,7 @@ loop-again : tie.Need-loop-again Inv-loop μ-loop
 loop-again c =
     let a = start-before-own-charge c .args in
     let l = at-loop-before-own-charge c .loop in
-    (omega arith, simp length-set (l .inv .1), next-written (l .row) (l .x) (c .own-charge .result) (λ d. own-figure (a .k) (demanded (a .sums .now) d)) (omega arith) (c .own-charge .ensures) (l .inv .2))
+    (omega arith, simp length-set (l .inv .1), next-written (l .row) (l .x) (c .own-charge .result) (λ d. own-figure (a .k) d (demanded (a .sums .now) d)) (omega arith) (c .own-charge .ensures) (l .inv .2))
 
 same-length : tie.Need-same-length Inv-loop μ-loop
 same-length c = search needs

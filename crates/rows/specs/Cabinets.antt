@@ -4,7 +4,8 @@ use mathlib.Core.List.{List}
 use lib.Dec.{ltb}
 use lib.ListN.{getD}
 use Rattle.finite.specs.Below.{only}
-use Rattle.rows.specs.declared.Node.{Node}
+use Rattle.rows.specs.declared.Own.{Own}
+use Rattle.rows.specs.declared.Link.{Link}
 use Rattle.records.specs.declared.Records.{Records}
 
 -- field i of n records; a record that isn't there has 0
@@ -15,24 +16,33 @@ field n l i = only (ltb i n) (getD l i 0)
 abbrev pub parent-of : Records → ℕ → ℕ
 parent-of k c = field (k .cabinets) (k .parent) c
 
--- cabinet c, from the columns of records
-abbrev pub node-of : List ℕ → List ℕ → List ℕ → List ℕ → List ℕ → List ℕ → ℕ → Node
-node-of capacity price up-capacity up-price down-capacity down-price c =
+-- what cabinet c lets in, from the columns of records
+abbrev pub own-in : List ℕ → List ℕ → List ℕ → ℕ → Own
+own-in capacity price barred c = record { capacity = getD capacity c 0; price = getD price c 0; barred = getD barred c 0 }
+
+-- what the link above cabinet c lets through, from the columns of records
+abbrev pub link-in : List ℕ → List ℕ → List ℕ → List ℕ → ℕ → Link
+link-in up-capacity up-price down-capacity down-price c =
     record {
-      capacity = getD capacity c 0;
-      price = getD price c 0;
       «up_capacity» = getD up-capacity c 0;
       «up_price» = getD up-price c 0;
       «down_capacity» = getD down-capacity c 0;
       «down_price» = getD down-price c 0;
     }
 
--- the record of cabinet c but for its parent
-unfoldable pub record-of : Records → ℕ → Node
-record-of k c =
+-- what cabinet c lets in
+unfoldable pub own-of : Records → ℕ → Own
+own-of k c =
     record {
       capacity = field (k .cabinets) (k .capacity) c;
       price = field (k .cabinets) (k .price) c;
+      barred = field (k .cabinets) (k .barred) c;
+    }
+
+-- what the link above cabinet c lets through
+unfoldable pub link-of : Records → ℕ → Link
+link-of k c =
+    record {
       «up_capacity» = field (k .cabinets) (k .«up_capacity») c;
       «up_price» = field (k .cabinets) (k .«up_price») c;
       «down_capacity» = field (k .cabinets) (k .«down_capacity») c;
