@@ -6,7 +6,7 @@
 
 /* Road M: 2 services, 3 cabinets, 1 stream, as 16-bit words. */
 static const uint16_t words[34] = {
-    2, 3, 1, 16, 20, 62, 68, 0, /* header */
+    2, 3, 1, 16, 20, 62, 68, 0, /* header; no barred pairs */
     2, 2,                       /* services */
     65535, 4, 5, 0, 0, 0, 0,    /* cabinet 0, the root */
     0, 3, 1, 6, 2, 6, 1,        /* cabinet 1 */
@@ -17,6 +17,7 @@ static const uint16_t words[34] = {
 int main(void)
 {
     uint8_t sheet[68];
+    uint64_t counts[5];
     uint16_t output[2];
     uint64_t costs[3 * 4];
     uint16_t choices[3 * 4];
@@ -29,15 +30,17 @@ int main(void)
         sheet[2 * i] = (uint8_t)(words[i] % 256);
         sheet[2 * i + 1] = (uint8_t)(words[i] / 256);
     }
-    refusal = gz_plan(sheet, sizeof sheet, output, 2, costs, 12, choices, 12, answer);
+    refusal = gz_read(sheet, sizeof sheet, counts);
+    if (refusal == 0)
+        refusal = gz_plan(sheet, sizeof sheet, output, 2, costs, 12, choices, 12, answer);
     if (refusal != 0) {
         printf("refused %" PRIu64 "\n", refusal);
         return 1;
     }
     printf("cost %" PRIu64 "\nweighed %" PRIu64 "\n", answer[1], answer[2]);
-    for (i = 0; i < 2; i++)
+    for (i = 0; i < counts[1]; i++)
         printf("%zu %u\n", i, (unsigned)output[i]);
-    refusal = gz_check(sheet, sizeof sheet, output, 2, checked);
+    refusal = gz_check(sheet, sizeof sheet, output, (size_t)counts[1], checked);
     printf("check %" PRIu64 " cost %" PRIu64 "\n", refusal, checked[1]);
     return refusal != 0 || checked[1] != answer[1];
 }

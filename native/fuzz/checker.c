@@ -4,9 +4,9 @@
 #include <string.h>
 
 #include "gazrieksne.h"
+#include "layout.h"
 #include "refusals.h"
 #include "require.h"
-#include "rules.h"
 
 static int all_cabinets_there(uint64_t s, const uint16_t *plan, size_t places)
 {
@@ -16,6 +16,16 @@ static int all_cabinets_there(uint64_t s, const uint16_t *plan, size_t places)
         if (plan[i] >= s)
             return 0;
     return 1;
+}
+
+int uses_barred(const uint8_t *sheet, const uint16_t *plan)
+{
+    size_t i;
+
+    for (i = 0; i < count_of(sheet, BARRED); i++)
+        if (plan[field_at(sheet, BARRED, i, 0)] == field_at(sheet, BARRED, i, 1))
+            return 1;
+    return 0;
 }
 
 /* True if a cabinet of an accepted sheet holds more demand than its capacity. */
@@ -36,8 +46,8 @@ static int is_overfull(const uint8_t *sheet, const uint16_t *plan, size_t places
 }
 
 /* The number that must be given; 0 where 16 may apply or none. */
-static uint64_t lowest(const struct run *run, const struct reading *reading, const uint16_t *plan,
-                       size_t places)
+static uint64_t first_refusal(const struct run *run, const struct reading *reading,
+                              const uint16_t *plan, size_t places)
 {
     if (reading->number != 0)
         return reading->number;
@@ -45,6 +55,8 @@ static uint64_t lowest(const struct run *run, const struct reading *reading, con
         return 13;
     if (!all_cabinets_there(reading->counts[2], plan, places))
         return 14;
+    if (uses_barred(run->input->sheet, plan))
+        return 20;
     return is_overfull(run->input->sheet, plan, places) ? 15 : 0;
 }
 
@@ -54,7 +66,7 @@ struct checking check_plan(const struct run *run, const struct reading *reading,
     const uint8_t *sheet = lend_sheet(run);
     const uint16_t *lent = lend_plan(run, plan, places);
     uint64_t *answer = lend_result(run, 2);
-    uint64_t expected = lowest(run, reading, plan, places);
+    uint64_t expected = first_refusal(run, reading, plan, places);
     struct checking checking;
 
     checking.number = gz_check(sheet, run->input->sheet_len, lent, places, answer);

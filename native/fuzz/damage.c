@@ -3,10 +3,10 @@
 
 #include <string.h>
 
+#include "damage_fourth.h"
 #include "input.h"
+#include "layout.h"
 #include "sheets.h"
-
-enum { HEADER = 16, LENGTH_WORD = 12 };
 
 /* Any byte at which a word can start; every other time in the header. */
 static size_t draw_place(struct random *random, size_t length)
@@ -48,8 +48,8 @@ static void swap_words(struct random *random, uint8_t *bytes, size_t length)
 /* Sets a block's offset to another block's, or a few bytes beside it. */
 static void move_block(struct random *random, uint8_t *bytes, size_t length)
 {
-    size_t from = 6 + 2 * random_below(random, 3);
-    size_t to = 6 + 2 * random_below(random, 3);
+    size_t from = offset_word[random_below(random, BLOCKS)];
+    size_t to = offset_word[random_below(random, BLOCKS)];
 
     if (length >= HEADER)
         put_word(bytes, to, word_at(bytes, from) + random_below(random, 9) - 4u);
@@ -78,7 +78,7 @@ size_t damage_sheet(struct random *random, uint8_t *bytes, size_t length)
     unsigned ways = 1 + random_below(random, 3) / 2 + random_below(random, 3) / 2;
 
     while (ways-- > 0 && length >= 2)
-        switch (random_below(random, 8)) {
+        switch (random_below(random, 12)) {
         case 0:
         case 1:
             flip_bits(random, bytes, length);
@@ -94,8 +94,12 @@ size_t damage_sheet(struct random *random, uint8_t *bytes, size_t length)
         case 6:
             move_block(random, bytes, length);
             break;
-        default:
+        case 7:
             length = change_length(random, bytes, length);
+            break;
+        default:
+            if (length >= HEADER)
+                length = damage_fourth(random, bytes, length);
         }
     return length;
 }

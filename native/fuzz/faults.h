@@ -58,6 +58,7 @@ struct fault {
     void (*service)(struct record *call);
     void (*cabinet)(struct record *call);
     void (*stream)(struct record *call);
+    void (*barred)(struct record *call);
     void (*check)(struct check *call);
     void (*plan)(struct plan *call);
     void (*bound)(struct bound *call);
@@ -65,6 +66,7 @@ struct fault {
 
 /* Each list ends with a fault without a name. */
 extern const struct fault sheet_faults[];
+extern const struct fault fourth_faults[];
 extern const struct fault reader_faults[];
 extern const struct fault checker_faults[];
 extern const struct fault planner_faults[];
@@ -74,6 +76,7 @@ void real_read(struct read *call);
 void real_service(struct record *call);
 void real_cabinet(struct record *call);
 void real_stream(struct record *call);
+void real_barred(struct record *call);
 void real_check(struct check *call);
 void real_plan(struct plan *call);
 void real_bound(struct bound *call);
@@ -81,7 +84,7 @@ void real_bound(struct bound *call);
 /* What the archive says of a sheet; the counts are 0 if it is refused. */
 struct counts {
     uint64_t number;
-    size_t r, s, q, entries;
+    size_t r, s, q, pairs, entries;
 };
 
 struct counts counts_of(struct sheet sheet);
@@ -89,6 +92,9 @@ struct counts counts_of(struct sheet sheet);
 /* A copy of a sheet, to be changed. */
 extern uint8_t other_sheet[];
 struct sheet copy_sheet(struct sheet sheet);
+
+/* A copy of a sheet that has a header, without the block of barred pairs. */
+struct sheet copy_unbarred(struct sheet sheet);
 
 /* Puts a word into a field of each cabinet of the copied sheet, from the first one given on. */
 void set_cabinets(struct sheet sheet, size_t first, size_t field, unsigned word);

@@ -3,7 +3,9 @@
 
 #include "faults.h"
 #include "input.h"
+#include "layout.h"
 #include "lent.h"
+#include "sheets.h"
 
 static void plan_tables_first(struct plan *call)
 {
@@ -260,6 +262,56 @@ static void plan_writes_none(struct plan *call)
     plan_aside(call, output);
 }
 
+static void plan_ignores_pairs(struct plan *call)
+{
+    if (counts_of(call->sheet).pairs > 0)
+        call->sheet = copy_unbarred(call->sheet);
+    real_plan(call);
+}
+
+/* Leaves out the last pair. */
+static void plan_fewer_pairs(struct plan *call)
+{
+    size_t pairs = counts_of(call->sheet).pairs;
+
+    if (pairs > 0) {
+        call->sheet = copy_sheet(call->sheet);
+        put_word(other_sheet, offset_of(other_sheet, BARRED), (unsigned)pairs - 1);
+    }
+    real_plan(call);
+}
+
+/* Leaves the cabinet of a pair without room. */
+static void plan_bars_all(struct plan *call)
+{
+    struct sheet copy = copy_sheet(call->sheet);
+    size_t pairs = counts_of(call->sheet).pairs;
+    size_t i;
+
+    for (i = 0; i < pairs; i++) {
+        size_t cabinet = field_at(call->sheet.bytes, BARRED, i, 1);
+        put_word(other_sheet, place_of(copy.bytes, CABINETS, cabinet, 1), 0);
+    }
+    call->sheet = copy;
+    real_plan(call);
+}
+
+static void plan_pairs_last(struct plan *call)
+{
+    real_plan(call);
+    if (call->number == 19 && call->output_len < word_at(call->sheet.bytes, 0)) {
+        call->number = 10;
+        call->answer[0] = 2;
+    }
+}
+
+static void plan_touches_refused(struct plan *call)
+{
+    real_plan(call);
+    if (call->number == 18 && call->choices_len > 0)
+        call->choices[0] = 7;
+}
+
 static void bound_low(struct bound *call)
 {
     real_bound(call);
@@ -273,6 +325,7 @@ static void bound_limits(struct bound *call)
         call->cabinets = 200;
     real_bound(call);
 }
+
 const struct fault planner_faults[] = {
     {.what = "gz_plan answers 11 before 10", .plan = plan_tables_first},
     {.what = "gz_plan answers 10 for an output of r places", .plan = plan_needs_more},
@@ -301,6 +354,11 @@ const struct fault planner_faults[] = {
     {.what = "gz_plan answers 12 for roads of three services", .plan = plan_none},
     {.what = "gz_plan finds a dearer plan", .plan = plan_dearer},
     {.what = "gz_plan writes no plan", .plan = plan_writes_none},
+    {.what = "gz_plan takes no notice of barred pairs", .plan = plan_ignores_pairs},
+    {.what = "gz_plan leaves out the last pair", .plan = plan_fewer_pairs},
+    {.what = "gz_plan bars every service from a pair's cabinet", .plan = plan_bars_all},
+    {.what = "gz_plan answers 10 before 19", .plan = plan_pairs_last},
+    {.what = "gz_plan touches the choices with 18", .plan = plan_touches_refused},
     {.what = "gz_bound answers one too low for 10 services", .bound = bound_low},
     {.what = "gz_bound takes 201 cabinets", .bound = bound_limits},
     {.what = NULL},

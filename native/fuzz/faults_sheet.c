@@ -3,23 +3,8 @@
 
 #include "faults.h"
 #include "input.h"
-#include "rules.h"
+#include "layout.h"
 #include "sheets.h"
-
-/* Where a field of a record stands. */
-static size_t place_of(struct sheet sheet, int block, size_t number, size_t field)
-{
-    return word_at(sheet.bytes, 6 + 2 * (size_t)block) + 2 * (fields_of[block] * number + field);
-}
-
-static struct sheet ignore_eighth(struct sheet sheet)
-{
-    struct sheet other = copy_sheet(sheet);
-
-    if (counts_of(sheet).number == 2)
-        put_word(other_sheet, 14, 0);
-    return other;
-}
 
 static struct sheet ignore_length(struct sheet sheet)
 {
@@ -46,8 +31,8 @@ static struct sheet refuse_empty_inside(struct sheet sheet)
     struct counts counts = counts_of(sheet);
 
     if (counts.r > 0 && counts.q == 0
-        && word_at(sheet.bytes, 10) > place_of(sheet, CABINETS, 0, 0)
-        && word_at(sheet.bytes, 10) < place_of(sheet, CABINETS, counts.s, 0))
+        && offset_of(sheet.bytes, STREAMS) > offset_of(sheet.bytes, CABINETS)
+        && offset_of(sheet.bytes, STREAMS) < end_of(sheet.bytes, CABINETS))
         put_word(other_sheet, 6, word_at(sheet.bytes, 8));
     return other;
 }
@@ -82,7 +67,7 @@ static struct sheet allow_same_ends(struct sheet sheet)
     for (i = 0; i < streams; i++) {
         size_t from = field_at(sheet.bytes, STREAMS, i, 0);
         if (field_at(sheet.bytes, STREAMS, i, 1) == from)
-            put_word(other_sheet, place_of(sheet, STREAMS, i, 1), from == 0);
+            put_word(other_sheet, place_of(sheet.bytes, STREAMS, i, 1), from == 0);
     }
     return other;
 }
@@ -92,7 +77,7 @@ static struct sheet allow_root_link(struct sheet sheet)
     struct sheet other = copy_sheet(sheet);
 
     if (counts_of(sheet).number == 9)
-        memset(other_sheet + place_of(sheet, CABINETS, 0, 3), 0, 8);
+        memset(other_sheet + place_of(sheet.bytes, CABINETS, 0, 3), 0, 8);
     return other;
 }
 
@@ -101,12 +86,11 @@ static struct sheet refuse_streams(struct sheet sheet)
     struct sheet other = copy_sheet(sheet);
 
     if (counts_of(sheet).q > 2)
-        put_word(other_sheet, place_of(sheet, STREAMS, 0, 0), 65535);
+        put_word(other_sheet, place_of(sheet.bytes, STREAMS, 0, 0), 65535);
     return other;
 }
 
 const struct fault sheet_faults[] = {
-    {.what = "all calls accept any eighth word", .sheet = ignore_eighth},
     {.what = "all calls accept any length word", .sheet = ignore_length},
     {.what = "all calls accept any place of an empty block", .sheet = ignore_empty_block},
     {.what = "all calls refuse an empty block inside another", .sheet = refuse_empty_inside},

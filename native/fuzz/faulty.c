@@ -8,6 +8,7 @@
 
 #include "faults.h"
 #include "input.h"
+#include "layout.h"
 #include "lent.h"
 #include "sheets.h"
 
@@ -17,6 +18,7 @@ uint64_t __real_gz_read(const uint8_t *, size_t, uint64_t *);
 uint64_t __real_gz_service(const uint8_t *, size_t, size_t, uint64_t *);
 uint64_t __real_gz_cabinet(const uint8_t *, size_t, size_t, uint64_t *);
 uint64_t __real_gz_stream(const uint8_t *, size_t, size_t, uint64_t *);
+uint64_t __real_gz_barred(const uint8_t *, size_t, size_t, uint64_t *);
 uint64_t __real_gz_check(const uint8_t *, size_t, const uint16_t *, size_t, uint64_t *);
 uint64_t __real_gz_plan(const uint8_t *, size_t, uint16_t *, size_t, uint64_t *, size_t, uint16_t *,
                         size_t, uint64_t *);
@@ -45,6 +47,12 @@ void real_stream(struct record *call)
         __real_gz_stream(call->sheet.bytes, call->sheet.length, call->which, call->record);
 }
 
+void real_barred(struct record *call)
+{
+    call->number =
+        __real_gz_barred(call->sheet.bytes, call->sheet.length, call->which, call->record);
+}
+
 void real_check(struct check *call)
 {
     call->number = __real_gz_check(call->sheet.bytes, call->sheet.length, call->plan,
@@ -65,13 +73,14 @@ void real_bound(struct bound *call)
 
 struct counts counts_of(struct sheet sheet)
 {
-    uint64_t told[4];
+    uint64_t told[5];
     struct counts counts;
 
     counts.number = __real_gz_read(sheet.bytes, sheet.length, told);
     counts.r = (size_t)told[1];
     counts.s = (size_t)told[2];
     counts.q = (size_t)told[3];
+    counts.pairs = (size_t)told[4];
     counts.entries = counts.s << counts.r;
     return counts;
 }
@@ -88,20 +97,28 @@ struct sheet copy_sheet(struct sheet sheet)
     return copy;
 }
 
+struct sheet copy_unbarred(struct sheet sheet)
+{
+    struct sheet copy = copy_sheet(sheet);
+
+    put_word(other_sheet, offset_word[BARRED], 0);
+    return copy;
+}
+
 void set_cabinets(struct sheet sheet, size_t first, size_t field, unsigned word)
 {
-    size_t cabinets = word_at(sheet.bytes, 2);
     size_t c;
 
-    for (c = first; c < cabinets; c++)
-        put_word(other_sheet, word_at(sheet.bytes, 8) + 14 * c + 2 * field, word);
+    for (c = first; c < count_of(sheet.bytes, CABINETS); c++)
+        put_word(other_sheet, place_of(sheet.bytes, CABINETS, c, field), word);
 }
 
 /* The fault of this number, counted through all lists. */
 static const struct fault *find(unsigned long number)
 {
     static const struct fault none = {.what = "none"};
-    const struct fault *lists[] = {sheet_faults, reader_faults, checker_faults, planner_faults};
+    const struct fault *lists[] = {sheet_faults, fourth_faults, reader_faults, checker_faults,
+                                   planner_faults};
     const struct fault *fault;
     size_t i;
 
@@ -162,6 +179,14 @@ uint64_t __wrap_gz_stream(const uint8_t *sheet, size_t sheet_len, size_t number,
     struct record call = {given(sheet, sheet_len), number, record, 0};
 
     (chosen()->stream != NULL ? chosen()->stream : real_stream)(&call);
+    return call.number;
+}
+
+uint64_t __wrap_gz_barred(const uint8_t *sheet, size_t sheet_len, size_t number, uint64_t *record)
+{
+    struct record call = {given(sheet, sheet_len), number, record, 0};
+
+    (chosen()->barred != NULL ? chosen()->barred : real_barred)(&call);
     return call.number;
 }
 

@@ -105,34 +105,50 @@ static void run_inputs(uint64_t inputs, uint64_t seed)
     }
 }
 
-/* True if the header lets the call give this number. */
-static int may_give(int call, int number)
+/* True if the header lets the call give this number: whoever lends memory and the road cause
+ * refusals of the planner only, whoever wrote the plan of the check only. */
+static int may_give(int call, uint64_t number)
 {
-    if (number <= 9)
+    switch (group_of(number)) {
+    case LENDER:
+    case ROAD:
+        return call == FIND;
+    case PLAN_WRITER:
+        return call == CHECK;
+    default:
         return 1;
-    return call == CHECK ? number >= 13 : call == FIND && number <= 12;
+    }
+}
+
+/* Prints how often each call gave the number. Gives the number of calls that may and never did. */
+static int tell_number(uint64_t number)
+{
+    int missing = 0;
+    int call;
+
+    printf("%6" PRIu64 " ", number);
+    for (call = 0; call < CALLS; call++) {
+        missing += may_give(call, number) && tally.met[call][number] == 0;
+        if (may_give(call, number))
+            printf(" %10" PRIu64, tally.met[call][number]);
+        else
+            printf(" %10s", "");
+    }
+    printf("\n");
+    return missing;
 }
 
 /* Prints the tally. Gives the number of answers never met. */
 static int tell(void)
 {
     int missing = 0;
-    int number;
-    int call;
+    uint64_t number;
 
     printf("%" PRIu64 " inputs, %" PRIu64 " accepted\n", tally.inputs, tally.met[READ][0]);
     printf("answer  %10s %10s %10s\n", "gz_read", "gz_check", "gz_plan");
-    for (number = 0; number <= LAST_REFUSAL; number++) {
-        printf("%6d ", number);
-        for (call = 0; call < CALLS; call++) {
-            missing += may_give(call, number) && tally.met[call][number] == 0;
-            if (may_give(call, number))
-                printf(" %10" PRIu64, tally.met[call][number]);
-            else
-                printf(" %10s", "");
-        }
-        printf("\n");
-    }
+    for (number = 0; number <= LAST_REFUSAL; number++)
+        if (is_given(number))
+            missing += tell_number(number);
     return missing;
 }
 

@@ -32,7 +32,7 @@ static struct loan lend_all(const struct run *run, const struct reading *reading
 }
 
 /* The number that must be given; 0 where 12 may apply or none. */
-static uint64_t lowest(const struct reading *reading, const struct loan *loan)
+static uint64_t first_refusal(const struct reading *reading, const struct loan *loan)
 {
     if (reading->number != 0)
         return reading->number;
@@ -84,7 +84,7 @@ struct planning find_plan(const struct run *run, const struct reading *reading)
     const uint8_t *sheet = lend_sheet(run);
     struct loan loan = lend_all(run, reading);
     uint64_t *answer = lend_result(run, 3);
-    uint64_t expected = lowest(reading, &loan);
+    uint64_t expected = first_refusal(reading, &loan);
     struct planning planning;
 
     planning.number = gz_plan(sheet, run->input->sheet_len, loan.output, loan.output_len,

@@ -4,6 +4,7 @@
 #include <stddef.h>
 
 #include "gazrieksne.h"
+#include "layout.h"
 #include "refusals.h"
 #include "require.h"
 #include "rules.h"
@@ -11,27 +12,26 @@
 typedef uint64_t record_call(const uint8_t *sheet, size_t sheet_len, size_t number,
                              uint64_t *record);
 
-static record_call *const record_calls[BLOCKS] = {gz_service, gz_cabinet, gz_stream};
+static record_call *const record_calls[BLOCKS] = {gz_service, gz_cabinet, gz_stream, gz_barred};
 
 struct reading read_sheet(const struct run *run)
 {
     const uint8_t *sheet = lend_sheet(run);
     size_t length = run->input->sheet_len;
-    uint64_t *counts = lend_result(run, 4);
+    uint64_t *counts = lend_result(run, 1 + BLOCKS);
     struct reading reading;
-    size_t i;
+    int block;
 
     reading.number = gz_read(sheet, length, counts);
-    require(reading.number <= 9, "gz_read: Returns 0 if it is accepted, else 1 to 9");
     require_number(reading.number, sheet_refusal(run->input->sheet, length));
-    take_result(run, reading.number, counts, 4, reading.counts);
+    take_result(run, reading.number, counts, 1 + BLOCKS, reading.counts);
     require_sheet_kept(run, sheet);
-    for (i = 1; i < 4; i++)
+    for (block = 0; block < BLOCKS; block++)
         if (reading.number != 0)
-            require(reading.counts[i] == 0, "gz_read: the last three are 0 in a refusal");
+            require(reading.counts[1 + block] == 0, "gz_read: the last four are 0 in a refusal");
         else
-            require(reading.counts[i] == word_at(sheet, 2 * (i - 1)),
-                    "gz_read: counts  group, r, s, q");
+            require(reading.counts[1 + block] == count_of(sheet, block),
+                    "gz_read: counts  group, r, s, q, the number of barred pairs");
     return reading;
 }
 
@@ -54,14 +54,18 @@ static void read_record(const struct run *run, const struct reading *reading, in
 
 void read_records(const struct run *run, const struct reading *reading)
 {
+    /* Numbers of no record; the first is 0 in 16 bits, and so is four times the second in any. */
+    static const size_t large[3] = {65536, SIZE_MAX / 4 + 1, SIZE_MAX};
     const uint8_t *sheet = lend_sheet(run);
     int block;
     size_t number;
+    size_t i;
 
     for (block = 0; block < BLOCKS; block++) {
         for (number = 0; number <= reading->counts[1 + block]; number++)
             read_record(run, reading, block, number, sheet);
-        read_record(run, reading, block, SIZE_MAX, sheet);
+        for (i = 0; i < 3; i++)
+            read_record(run, reading, block, large[i], sheet);
     }
     require_sheet_kept(run, sheet);
 }

@@ -9,7 +9,7 @@
 /* The number that gz_read returned, and what it told. */
 struct reading {
     uint64_t number;
-    uint64_t counts[4]; /* group, r, s, q */
+    uint64_t counts[5]; /* group, r, s, q, barred pairs */
 };
 
 struct reading read_sheet(const struct run *run);

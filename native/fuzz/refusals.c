@@ -5,41 +5,67 @@
 
 #include "require.h"
 
-static const struct {
+/* In the order of giving; a call passes over those that it cannot give. */
+static const struct refusal {
+    uint64_t number;
     uint64_t group;
     const char *sentence;
-} refusals[LAST_REFUSAL + 1] = {
-    {0, "0  no refusal"},
-    {1, "1  fewer than 16 bytes"},
-    {1, "2  r, s or q outside its limits, or the eighth word not 0"},
-    {1, "3  the length word is not the sheet's length"},
-    {1, "4  a block's offset is below 16, or the block ends past the length (empty blocks too)"},
-    {1, "5  two blocks share a byte"},
-    {1, "6  a demand, capacity or price above 10,000"},
-    {1, "7  a wrong parent"},
-    {1, "8  a stream end is not below r, or both ends are the same"},
-    {1, "9  a link field of cabinet 0 is not 0"},
-    {2, "10  the output is shorter than r places"},
-    {2, "11  a table is shorter than s * 2^r entries"},
-    {3, "12  no valid plan exists"},
-    {4, "13  it hasn't exactly r places"},
-    {4, "14  a cabinet number is not below s"},
-    {4, "15  a cabinet is overfull"},
-    {4, "16  a direction of a link is overfull"},
+} refusals[] = {
+    {1, SHEET_WRITER, "1  fewer than 16 bytes"},
+    {2, SHEET_WRITER, "2  r, s or q outside its limits"},
+    {3, SHEET_WRITER, "3  the length word is not the sheet's length"},
+    {4, SHEET_WRITER, "4  the offset of one of the first three blocks is below 16, or that block "
+                      "ends past the length (empty blocks too)"},
+    {5, SHEET_WRITER, "5  two of the first three blocks share a byte"},
+    {6, SHEET_WRITER, "6  a demand, capacity or price above 10,000"},
+    {7, SHEET_WRITER, "7  a wrong parent"},
+    {8, SHEET_WRITER, "8  a stream end is not below r, or both ends are the same"},
+    {9, SHEET_WRITER, "9  a link field of cabinet 0 is not 0"},
+    {18, SHEET_WRITER, "18  there is a fourth block, and its offset is below 16, or it ends past "
+                       "the length, or it has more than 2,000 pairs, or it shares a byte"},
+    {19, SHEET_WRITER, "19  the service of a barred pair is not below r, or its cabinet not below "
+                       "s"},
+    {10, LENDER, "10  the output is shorter than r places"},
+    {11, LENDER, "11  a table is shorter than s * 2^r entries"},
+    {12, ROAD, "12  no valid plan exists"},
+    {13, PLAN_WRITER, "13  it hasn't exactly r places"},
+    {14, PLAN_WRITER, "14  a cabinet number is not below s"},
+    {20, PLAN_WRITER, "20  a service is on a cabinet that it is barred from"},
+    {15, PLAN_WRITER, "15  a cabinet is overfull"},
+    {16, PLAN_WRITER, "16  a direction of a link is overfull"},
+    {0, NOBODY, "group 0: no refusal"},
 };
 
-void require_known(uint64_t number)
+/* The first line that has one of the two numbers; null if none has. */
+static const struct refusal *find(uint64_t one, uint64_t other)
 {
-    require(number <= LAST_REFUSAL, "Calls return 0 or the number of a refusal");
+    size_t i;
+
+    for (i = 0; i < sizeof refusals / sizeof *refusals; i++)
+        if (refusals[i].number == one || refusals[i].number == other)
+            return &refusals[i];
+    return NULL;
+}
+
+int is_given(uint64_t number)
+{
+    return find(number, number) != NULL;
+}
+
+uint64_t group_of(uint64_t number)
+{
+    return find(number, number)->group;
+}
+
+static void require_known(uint64_t number)
+{
+    require(is_given(number), "Calls return 0 or the number of a refusal");
 }
 
 void require_number(uint64_t given, uint64_t expected)
 {
-    uint64_t lower = given < expected ? given : expected;
-    uint64_t upper = given < expected ? expected : given;
-
     require_known(given);
-    require(given == expected, refusals[lower > 0 ? lower : upper].sentence);
+    require(given == expected, find(given, expected)->sentence);
 }
 
 void take_result(const struct run *run, uint64_t number, const uint64_t *result, size_t places,
@@ -53,7 +79,7 @@ void take_result(const struct run *run, uint64_t number, const uint64_t *result,
         into[i] = result[i];
     }
     require_known(number);
-    require(into[0] == refusals[number].group,
+    require(into[0] == group_of(number),
             "Their first place holds the group of the refusal");
 }
 

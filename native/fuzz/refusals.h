@@ -7,12 +7,19 @@
 
 #include "lent.h"
 
-enum { LAST_REFUSAL = 16 };
+enum { LAST_REFUSAL = 20 };
 
-/* Fails unless this is 0 or the number of a refusal. */
-void require_known(uint64_t number);
+/* Who can have caused a refusal. */
+enum { NOBODY, SHEET_WRITER, LENDER, ROAD, PLAN_WRITER };
 
-/* Fails with the header's line of the lower number unless the number given is the expected one. */
+/* True if this is 0 or the number of a refusal that some call gives. */
+int is_given(uint64_t number);
+
+/* The group of a number that is given. */
+uint64_t group_of(uint64_t number);
+
+/* Fails unless the number given is the expected one, with the header's line of that of the two
+ * which stands first in the order of giving. */
 void require_number(uint64_t given, uint64_t expected);
 
 /* Copies a result, having made sure that every place was written and the group is the number's. */

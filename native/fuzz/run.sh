@@ -5,7 +5,7 @@ set -euo pipefail
 ulimit -c 0
 
 build=target/native
-wrapped=(read service cabinet stream check plan bound)
+wrapped=(read service cabinet stream barred check plan bound)
 
 # Compiles the given files, beside the target and the driver, into a program of the given name.
 compile() {
@@ -13,8 +13,8 @@ compile() {
     shift
     cc -std=c99 -Wall -Wextra -Werror -O1 -g \
         -fsanitize=address,undefined -fno-sanitize-recover=all -Inative/include "$@" \
-        native/fuzz/{main,sheets,damage,random}.c \
-        native/fuzz/{target,rules,reader,checker,planner,refusals,lent,input,arena,require}.c \
+        native/fuzz/{main,sheets,damage,damage_fourth,random}.c \
+        native/fuzz/{target,rules,layout,reader,checker,planner,refusals,lent,input,arena,require}.c \
         target/staticlib/libgazrieksne.a -o "$build/$name"
 }
 
@@ -27,7 +27,7 @@ run_fault() {
 mkdir -p "$build"
 compile fuzz
 compile fuzz-faulty "${wrapped[@]/#/-Wl,--wrap=gz_}" \
-    native/fuzz/{faulty,faults_sheet,faults_reader,faults_checker,faults_planner}.c
+    native/fuzz/{faulty,faults_sheet,faults_fourth,faults_reader,faults_checker,faults_planner}.c
 
 "$build/fuzz"
 

@@ -3,18 +3,26 @@
 
 #include <string.h>
 
-#include "rules.h"
+#include "layout.h"
 
-enum { HEADER = 16, MOST_AMOUNT = 10000, NO_PARENT = 65535 };
-enum { CAPACITY = 1, UP_CAPACITY = 3, DOWN_CAPACITY = 5, CABINET_FIELDS = 7, STREAM_FIELDS = 3 };
+enum { MOST_AMOUNT = 10000, MOST_PAIRS = 2000, NO_PARENT = 65535 };
+enum { CAPACITY = 1, UP_CAPACITY = 3, DOWN_CAPACITY = 5, CABINET_FIELDS = 7 };
 
-/* The numbers of services, cabinets and streams, and what amounts are like. */
+/* Some of the numbers below another: so many, from the first on and past the last to 0. */
+struct some {
+    unsigned first, many;
+};
+
+/* The numbers of records, and what amounts and barred pairs are like. */
 struct road {
     unsigned count[BLOCKS];
-    unsigned most;   /* amounts are at most this */
-    unsigned room;   /* about how many demands a cabinet's capacity is made for */
-    unsigned width;  /* the same for a link */
-    unsigned shape;  /* of the tree */
+    unsigned most;        /* amounts are at most this */
+    unsigned room;        /* about how many demands a cabinet's capacity is made for */
+    unsigned width;       /* the same for a link */
+    unsigned shape;       /* of the tree */
+    int has_fourth;       /* there is a block of barred pairs, though perhaps without a pair */
+    struct some services; /* those that are barred from a cabinet */
+    struct some cabinets; /* those that a service is barred from */
 };
 
 void put_word(uint8_t *bytes, size_t at, unsigned word)
@@ -43,11 +51,41 @@ static void draw_counts(struct random *random, struct road *road)
         road->count[STREAMS] = random_below(random, random_once_in(random, 64) ? 101 : 5);
 }
 
+static struct some draw_some(struct random *random, unsigned below)
+{
+    struct some some;
+
+    some.first = random_below(random, below);
+    some.many = 1 + random_below(random, below);
+    return some;
+}
+
+/* No block, no pair, few pairs, or many; without a service there is none to bar. Pairs repeat, and
+ * leave some services or cabinets free, so that many of them do not bar every plan. */
+static void draw_bars(struct random *random, struct road *road)
+{
+    unsigned large = random_below(random, 4096);
+    unsigned pairs = 1 + random_below(random, 5);
+
+    if (large == 0)
+        pairs = MOST_PAIRS - random_below(random, 2);
+    else if (large < 64)
+        pairs = random_below(random, 100);
+    road->has_fourth = random_below(random, 3) > 0;
+    road->count[BARRED] = 0;
+    if (!road->has_fourth || road->count[SERVICES] == 0 || random_once_in(random, 8))
+        return;
+    road->count[BARRED] = pairs;
+    road->services = draw_some(random, road->count[SERVICES]);
+    road->cabinets = draw_some(random, road->count[CABINETS]);
+}
+
 static void draw_road(struct random *random, struct road *road)
 {
     static const unsigned most[8] = {1, 2, 4, 4, 9, 100, MOST_AMOUNT, MOST_AMOUNT};
 
     draw_counts(random, road);
+    draw_bars(random, road);
     road->most = most[random_below(random, 8)];
     road->room = random_below(random, 8);
     road->width = random_below(random, 8);
@@ -113,17 +151,30 @@ static void write_stream(struct random *random, const struct road *road, uint8_t
     put_word(at, 4, draw_amount(random, road));
 }
 
-static void write_blocks(struct random *random, const struct road *road, uint8_t *bytes,
-                         const size_t offset[BLOCKS])
+static unsigned draw_one(struct random *random, struct some some, unsigned below)
+{
+    return (some.first + random_below(random, some.many)) % below;
+}
+
+static void write_pair(struct random *random, const struct road *road, uint8_t *at)
+{
+    put_word(at, 0, draw_one(random, road->services, road->count[SERVICES]));
+    put_word(at, 2, draw_one(random, road->cabinets, road->count[CABINETS]));
+}
+
+/* The records of a sheet that has its header. */
+static void write_records(struct random *random, const struct road *road, uint8_t *bytes)
 {
     unsigned i;
 
     for (i = 0; i < road->count[SERVICES]; i++)
-        put_word(bytes, offset[SERVICES] + 2 * i, draw_amount(random, road));
+        put_word(bytes, place_of(bytes, SERVICES, i, 0), draw_amount(random, road));
     for (i = 0; i < road->count[CABINETS]; i++)
-        write_cabinet(random, road, i, bytes + offset[CABINETS] + 2 * CABINET_FIELDS * i);
+        write_cabinet(random, road, i, bytes + place_of(bytes, CABINETS, i, 0));
     for (i = 0; i < road->count[STREAMS]; i++)
-        write_stream(random, road, bytes + offset[STREAMS] + 2 * STREAM_FIELDS * i);
+        write_stream(random, road, bytes + place_of(bytes, STREAMS, i, 0));
+    for (i = 0; i < road->count[BARRED]; i++)
+        write_pair(random, road, bytes + place_of(bytes, BARRED, i, 0));
 }
 
 static size_t draw_gap(struct random *random)
@@ -131,24 +182,59 @@ static size_t draw_gap(struct random *random)
     return random_once_in(random, 4) ? random_below(random, 6) : 0;
 }
 
-/* Lays the blocks one after the other in any order with gaps; an empty block lies anywhere. Gives
- * the length of the sheet. */
-static size_t draw_layout(struct random *random, const struct road *road, size_t offset[BLOCKS])
+static size_t size_of(const struct road *road, unsigned block)
 {
-    unsigned first = random_below(random, BLOCKS);
-    unsigned step = 1 + random_below(random, BLOCKS - 1);
-    size_t length = HEADER + draw_gap(random);
+    size_t records = 2 * fields_of[block] * road->count[block];
+
+    return block == BARRED && road->has_fourth ? 2 + records : records;
+}
+
+/* The blocks in any order. */
+static void draw_order(struct random *random, unsigned order[BLOCKS])
+{
     unsigned i;
 
     for (i = 0; i < BLOCKS; i++) {
-        unsigned block = (first + i * step) % BLOCKS;
-        offset[block] = length;
-        length += 2 * fields_of[block] * road->count[block] + draw_gap(random);
+        unsigned place = random_below(random, i + 1);
+        order[i] = i;
+        order[i] = order[place];
+        order[place] = i;
+    }
+}
+
+/* Lays the blocks one after the other in any order with gaps; a block of no bytes lies anywhere.
+ * Gives the length of the sheet. */
+static size_t draw_layout(struct random *random, const struct road *road, size_t offset[BLOCKS])
+{
+    size_t length = HEADER + draw_gap(random);
+    unsigned order[BLOCKS];
+    unsigned i;
+
+    draw_order(random, order);
+    for (i = 0; i < BLOCKS; i++) {
+        offset[order[i]] = length;
+        length += size_of(road, order[i]) + draw_gap(random);
     }
     for (i = 0; i < BLOCKS; i++)
-        if (road->count[i] == 0)
+        if (size_of(road, i) == 0)
             offset[i] = HEADER + random_below(random, (unsigned)(length - HEADER + 1));
+    if (!road->has_fourth)
+        offset[BARRED] = 0;
     return length;
+}
+
+static void write_header(const struct road *road, uint8_t *bytes, size_t length,
+                         const size_t offset[BLOCKS])
+{
+    unsigned i;
+
+    for (i = 0; i < BARRED; i++)
+        put_word(bytes, 2 * i, road->count[i]);
+    for (i = 0; i < BLOCKS; i++)
+        put_word(bytes, offset_word[i], (unsigned)offset[i]);
+    put_word(bytes, LENGTH_WORD, (unsigned)length);
+    if (road->has_fourth)
+        put_word(bytes, offset[BARRED], road->count[BARRED]);
 }
 
 size_t draw_sheet(struct random *random, uint8_t *bytes)
@@ -156,18 +242,12 @@ size_t draw_sheet(struct random *random, uint8_t *bytes)
     struct road road;
     size_t offset[BLOCKS];
     size_t length;
-    unsigned i;
 
     draw_road(random, &road);
     length = draw_layout(random, &road, offset);
     memset(bytes, random_once_in(random, 2) ? 0 : 255, length);
-    for (i = 0; i < BLOCKS; i++) {
-        put_word(bytes, 2 * i, road.count[i]);
-        put_word(bytes, 6 + 2 * i, (unsigned)offset[i]);
-    }
-    put_word(bytes, 12, (unsigned)length);
-    put_word(bytes, 14, 0);
-    write_blocks(random, &road, bytes, offset);
+    write_header(&road, bytes, length, offset);
+    write_records(random, &road, bytes);
     return length;
 }
 

@@ -7,7 +7,7 @@
 
 #include "random.h"
 
-enum { MOST_ROAD_SHEET = 4096 };
+enum { MOST_ROAD_SHEET = 12000 };
 
 /* Puts a word at this byte, low byte first. */
 void put_word(uint8_t *bytes, size_t at, unsigned word);

@@ -4,6 +4,7 @@
 #include <string.h>
 
 #include "checker.h"
+#include "layout.h"
 #include "planner.h"
 #include "require.h"
 
@@ -75,6 +76,8 @@ static void require_written(const struct run *run, const struct outcome *outcome
 
     if (outcome->planning.number != 0)
         return;
+    require(!uses_barred(run->input->sheet, outcome->planning.plan),
+            "The plan is valid when no service is on a cabinet that it is barred from");
     checking = check_plan(run, &outcome->reading, outcome->planning.plan,
                           (size_t)outcome->reading.counts[1]);
     require(checking.number == 0,
@@ -101,6 +104,24 @@ static void require_no_rival(const struct run *run, const struct outcome *outcom
         rival[i] = (uint16_t)(input_word(run->input, i) % s);
         checking = check_plan(run, &outcome->reading, rival, r);
         require_not_better(&outcome->planning, &checking);
+    }
+}
+
+/* Plans that differ from the same plan by a service on a cabinet that it is barred from, for the
+ * last pair and a few others. */
+static void check_barred(const struct run *run, const struct outcome *outcome)
+{
+    size_t pairs = (size_t)outcome->reading.counts[4];
+    size_t i;
+
+    for (i = 0; i < 4 && i < pairs; i++) {
+        size_t number = i == 0 ? pairs - 1 : input_word(run->input, i) % pairs;
+        uint16_t service = field_at(run->input->sheet, BARRED, number, 0);
+        uint16_t plan[MOST_SERVICES];
+
+        memcpy(plan, outcome->planning.plan, sizeof plan);
+        plan[service] = field_at(run->input->sheet, BARRED, number, 1);
+        check_plan(run, &outcome->reading, plan, (size_t)outcome->reading.counts[1]);
     }
 }
 
@@ -131,6 +152,7 @@ int LLVMFuzzerTestOneInput(const uint8_t *data, size_t size)
     require_not_better(&one.planning, &one.checking);
     require_written(&first, &one);
     require_no_rival(&second, &one);
+    check_barred(&second, &one);
     count(&one);
     return 0;
 }

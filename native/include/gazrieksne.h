@@ -1,51 +1,64 @@
 /* gazrieksne.h: the proved planner for tree-shaped toll roads, as a C interface.
  *
  * A planning sheet describes services with demands, cabinets that form a tree and have room for
- * services, and streams between services. The library reads sheets, checks plans, and finds a
- * cheapest plan. It keeps no state, allocates nothing, and calls nothing of yours; any number of
- * threads may call it at once, each with memory of its own.
+ * services, streams between services, and which services are barred from which cabinets. The
+ * library reads sheets, checks plans, and finds a cheapest plan. It keeps no state, allocates
+ * nothing, and calls nothing of yours; any number of threads may call it at once, each with memory
+ * of its own.
  *
  * The sheet
  * ---------
  * A sheet is bytes. Every field is an unsigned 16-bit word, low byte first. The header has eight
  * words: r (services, 0 to 10), s (cabinets, 1 to 200), q (streams, 0 to 100), the byte offsets of
- * the service, cabinet and stream blocks, the sheet's length in bytes, and 0. Blocks may come in
- * any order, at odd offsets too, with unused bytes between.
- *   service, 2 bytes:  demand
- *   cabinet, 14 bytes: parent, capacity, price, up capacity, up price, down capacity, down price
- *   stream, 6 bytes:   from, to, demand
- * Services, cabinets and streams are numbered from 0. Cabinet 0 is the root: its parent is 65535
- * and its four link fields are 0. The parent of any other cabinet has a smaller number. "Up" runs
- * from a cabinet to its parent, "down" from the parent to it. The ends of a stream are two
- * different services; several streams may join the same pair. Demands, capacities and prices are
- * 0 to 10,000.
+ * the service, cabinet and stream blocks, the sheet's length in bytes, and the byte offset of a
+ * fourth block, that of the barred pairs, or 0 if there is none. Blocks may come in any order, at
+ * odd offsets too, with unused bytes between. Each is its records one after the other; the fourth
+ * has before them a word that says how many pairs there are, 0 to 2,000, and so has 2 bytes even
+ * without a pair.
+ *   service, 2 bytes:     demand
+ *   cabinet, 14 bytes:    parent, capacity, price, up capacity, up price, down capacity, down price
+ *   stream, 6 bytes:      from, to, demand
+ *   barred pair, 4 bytes: service, cabinet
+ * Services, cabinets, streams and barred pairs are numbered from 0. Cabinet 0 is the root: its
+ * parent is 65535 and its four link fields are 0. The parent of any other cabinet has a smaller
+ * number. "Up" runs from a cabinet to its parent, "down" from the parent to it. The ends of a
+ * stream are two different services; several streams may join the same two. A pair bars its
+ * service from its cabinet; the same pair may stand several times, and each time counts towards
+ * the 2,000. Demands, capacities and prices are 0 to 10,000.
  *
  * A plan
  * ------
  * A plan gives each service a cabinet. A stream runs along the only simple path between the
- * cabinets of its ends. The plan is valid when no cabinet holds, and no direction of a link
- * carries, more demand than its capacity. Its cost is demand times price, summed over the services
- * (by their cabinets) and over each link of each stream's path (by the direction taken).
+ * cabinets of its ends. The plan is valid when no service is on a cabinet that it is barred from,
+ * and no cabinet holds, and no direction of a link carries, more demand than its capacity. Its cost
+ * is demand times price, summed over the services (by their cabinets) and over each link of each
+ * stream's path (by the direction taken).
  *
  * What calls answer
  * -----------------
- * Calls return 0 or the number of a refusal; gz_service, gz_cabinet, gz_stream and gz_weigh return
- * something else, told there. The arrays `counts` and `answer` are results: every place of them is
- * written on every call, whatever they held, with 0 where there is nothing to tell. Their first
- * place holds the group of the refusal, that is, who can have caused it. If several refusals
- * apply, the lowest number is given.
+ * Calls return 0 or the number of a refusal; gz_service, gz_cabinet, gz_stream, gz_barred and
+ * gz_weigh return something else, told there. The arrays `counts` and `answer` are results: every
+ * place of them is written on every call, whatever they held, with 0 where there is nothing to
+ * tell. Their first place holds the group of the refusal, that is, who can have caused it. If
+ * several refusals apply, the one that is first in this order is given: 1 to 9, 18 and 19 for every
+ * call that takes a sheet, then 10, 11 and 12 for gz_plan, and 13, 14, 20, 15 and 16 for gz_check.
  *
  *   group 0: no refusal
  *   group 1: whoever wrote the sheet
  *      1  fewer than 16 bytes
- *      2  r, s or q outside its limits, or the eighth word not 0
+ *      2  r, s or q outside its limits
  *      3  the length word is not the sheet's length
- *      4  a block's offset is below 16, or the block ends past the length (empty blocks too)
- *      5  two blocks share a byte
+ *      4  the offset of one of the first three blocks is below 16, or that block ends past the
+ *         length (empty blocks too)
+ *      5  two of the first three blocks share a byte
  *      6  a demand, capacity or price above 10,000
  *      7  a wrong parent
  *      8  a stream end is not below r, or both ends are the same
  *      9  a link field of cabinet 0 is not 0
+ *     18  there is a fourth block, and its offset is below 16, or it ends past the length (also if
+ *         its first word does not fit), or it has more than 2,000 pairs, or it shares a byte with
+ *         another block (a block of no bytes shares none)
+ *     19  the service of a barred pair is not below r, or its cabinet not below s
  *   group 2: whoever lends memory to the planner
  *     10  the output is shorter than r places
  *     11  a table is shorter than s * 2^r entries
@@ -54,8 +67,11 @@
  *   group 4: whoever wrote the plan
  *     13  it hasn't exactly r places
  *     14  a cabinet number is not below s
+ *     20  a service is on a cabinet that it is barred from
  *     15  a cabinet is overfull
  *     16  a direction of a link is overfull
+ *
+ * No call returns 17: only the program gives it, for more bytes than it takes.
  *
  * Pointers
  * --------
@@ -75,10 +91,11 @@
 extern "C" {
 #endif
 
-/* Reads a sheet. Returns 0 if it is accepted, else 1 to 9.
+/* Reads a sheet. Returns 0 if it is accepted, else 1 to 9, 18 or 19.
  *   sheet, sheet_len  the bytes of the sheet and their number
- *   counts            group, r, s, q; the last three are 0 in a refusal */
-uint64_t gz_read(const uint8_t *sheet, size_t sheet_len, uint64_t counts[4]);
+ *   counts            group, r, s, q, the number of barred pairs; the last four are 0 in a
+ *                     refusal */
+uint64_t gz_read(const uint8_t *sheet, size_t sheet_len, uint64_t counts[5]);
 
 /* Gives a service by its number. Returns 1 if it is there; 0 if the sheet is refused or has no
  * service of this number, and then the record is left untouched.
@@ -94,13 +111,18 @@ uint64_t gz_cabinet(const uint8_t *sheet, size_t sheet_len, size_t number, uint6
  *   record  from, to, demand */
 uint64_t gz_stream(const uint8_t *sheet, size_t sheet_len, size_t number, uint64_t record[3]);
 
-/* Checks a plan. Returns 0 if it is valid, else 1 to 9 or 13 to 16.
+/* Gives a barred pair by its number, in the same way; the pairs are numbered as they stand in the
+ * sheet.
+ *   record  service, cabinet */
+uint64_t gz_barred(const uint8_t *sheet, size_t sheet_len, size_t number, uint64_t record[2]);
+
+/* Checks a plan. Returns 0 if it is valid, else 1 to 9, 13 to 16 or 18 to 20.
  *   plan, plan_len  the cabinet of each service, in order, and how many there are
  *   answer          group, cost; the cost is 0 in a refusal */
 uint64_t gz_check(const uint8_t *sheet, size_t sheet_len, const uint16_t *plan, size_t plan_len,
                   uint64_t answer[2]);
 
-/* Finds a cheapest plan. Returns 0 if there is one, else 1 to 12.
+/* Finds a cheapest plan. Returns 0 if there is one, else 1 to 12, 18 or 19.
  *   output, output_len    places for the plan, r or more. On success the first r hold the cabinet
  *                         of each service, in order. Other places stay as they are, and in a
  *                         refusal all do.

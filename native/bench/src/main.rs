@@ -29,14 +29,16 @@ fn main() {
                     times.proved * 1e3,
                     times.plain * 1e3,
                 );
-                product += ratio.ln();
-                rows += 1.0;
+                if shape != Shape::Barred {
+                    product += ratio.ln();
+                    rows += 1.0;
+                }
             }
         }
     }
     println!();
     println!(
-        "Geometric mean of the ratios: {:.2}",
+        "Geometric mean of the ratios without barred pairs: {:.2}",
         (product / rows).exp()
     );
 }

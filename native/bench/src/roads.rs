@@ -3,23 +3,26 @@
 use second::build::tight;
 use second::limits::NO_PARENT;
 use second::random::Random;
-use second::{Cabinet, Sheet, Stream};
+use second::{Cabinet, Pair, Sheet, Stream};
 
-#[derive(Clone, Copy)]
+#[derive(Clone, Copy, PartialEq)]
 pub enum Shape {
     Star,
     Chain,
     Tree,
+    /// The same tree, with a quarter of all pairs barred.
+    Barred,
 }
 
 impl Shape {
-    pub const ALL: [Shape; 3] = [Shape::Star, Shape::Chain, Shape::Tree];
+    pub const ALL: [Shape; 4] = [Shape::Star, Shape::Chain, Shape::Tree, Shape::Barred];
 
     pub fn name(self) -> &'static str {
         match self {
             Shape::Star => "star",
             Shape::Chain => "chain",
             Shape::Tree => "random tree",
+            Shape::Barred => "random tree, barred",
         }
     }
 
@@ -28,7 +31,7 @@ impl Shape {
             _ if c == 0 => NO_PARENT,
             Shape::Star => 0,
             Shape::Chain => c as u16 - 1,
-            Shape::Tree => random.below(c) as u16,
+            Shape::Tree | Shape::Barred => random.below(c) as u16,
         }
     }
 }
@@ -64,5 +67,19 @@ pub fn sheet(shape: Shape, services: usize, cabinets: usize) -> Vec<u8> {
         services: demands,
         streams,
         cabinets: (0..cabinets).map(cabinet).collect(),
+        barred: match shape {
+            Shape::Barred => some_pairs(services, cabinets),
+            _ => vec![],
+        },
     })
+}
+
+/// About a quarter of all pairs.
+fn some_pairs(services: usize, cabinets: usize) -> Vec<Pair> {
+    let mut random = Random::new(6);
+    let all = (0..services * cabinets).map(|k| Pair {
+        service: (k / cabinets) as u16,
+        cabinet: (k % cabinets) as u16,
+    });
+    all.filter(|_| random.once_in(4)).collect()
 }

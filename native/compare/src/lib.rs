@@ -8,12 +8,14 @@ pub use options::Options;
 pub use proved::Proved;
 
 use differ::{Tally, compare};
+use second::barred;
 use second::random::case::{Origin, with_calls};
 use second::random::layout::layout;
 use second::random::road::{Kind, of_kind};
 use second::random::{Case, Random, Size, case};
 
-/// Compares all cases. The error is the first difference in full.
+/// Compares all cases: those written down for barred pairs, random ones, and large roads. The
+/// error is the first difference in full.
 pub fn run(options: &Options) -> Result<Tally, String> {
     let mut tally = Tally::default();
     let mut random = Random::new(options.seed);
@@ -21,6 +23,10 @@ pub fn run(options: &Options) -> Result<Tally, String> {
         services: options.services,
         cabinets: options.cabinets,
     };
+    for directed in barred::all() {
+        compare(&Proved, &directed.case(), &mut random, &mut tally)
+            .map_err(|what| format!("{}: {what}", directed.name))?;
+    }
     for number in 0..options.cases + options.large {
         let case = match number < options.cases {
             true => case(&mut random, size),

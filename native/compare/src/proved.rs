@@ -6,7 +6,7 @@ use gazrieksne::calls;
 pub struct Proved;
 
 impl Subject for Proved {
-    fn read(&self, sheet: &[u8], counts: &mut [u64; 4]) -> u64 {
+    fn read(&self, sheet: &[u8], counts: &mut [u64; 5]) -> u64 {
         calls::read(sheet, counts)
     }
 
@@ -20,6 +20,10 @@ impl Subject for Proved {
 
     fn stream(&self, sheet: &[u8], number: usize, record: &mut [u64; 3]) -> u64 {
         calls::stream(sheet, number, record)
+    }
+
+    fn barred(&self, sheet: &[u8], number: usize, record: &mut [u64; 2]) -> u64 {
+        calls::barred(sheet, number, record)
     }
 
     fn check(&self, sheet: &[u8], plan: &[u16], answer: &mut [u64; 2]) -> u64 {

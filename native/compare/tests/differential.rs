@@ -11,14 +11,17 @@ fn no_difference_and_every_refusal() {
         ..Options::default()
     };
     let tally = run(&options).unwrap_or_else(|difference| panic!("{difference}"));
-    for refusal in 0..=9 {
+    for refusal in (0..=9).chain([18, 19]) {
         assert!(tally.times("read", refusal) > 0, "read: {refusal}");
     }
-    for refusal in (0..=9).chain(13..=16) {
+    for refusal in (0..=9).chain(13..=16).chain(18..=20) {
         assert!(tally.times("check", refusal) > 0, "check: {refusal}");
     }
-    for refusal in 0..=12 {
+    for refusal in (0..=12).chain([18, 19]) {
         assert!(tally.times("plan", refusal) > 0, "plan: {refusal}");
+    }
+    for found in [0, 1] {
+        assert!(tally.times("barred", found) > 0, "barred: {found}");
     }
     for refusal in [0, 2] {
         assert!(tally.times("bound", refusal) > 0, "bound: {refusal}");

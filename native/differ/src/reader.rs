@@ -3,9 +3,9 @@
 use crate::guarded::{Guarded, same};
 use crate::{Subject, Tally};
 use second::random::Random;
-use second::{Sheet, group};
+use second::{Cabinet, Pair, Sheet, Stream, group};
 
-/// The refusal, the group and the three counts.
+/// The refusal, the group and the four counts.
 pub fn read(
     subject: &dyn Subject,
     sheet: &[u8],
@@ -13,25 +13,28 @@ pub fn read(
     tally: &mut Tally,
 ) -> Result<(), String> {
     let (right, counts) = match second::read(sheet) {
-        Ok(records) => (
-            0,
-            [
-                0,
-                records.services.len() as u64,
-                records.cabinets.len() as u64,
-                records.streams.len() as u64,
-            ],
-        ),
-        Err(refusal) => (refusal, [group(refusal), 0, 0, 0]),
+        Ok(records) => (0, counts(&records)),
+        Err(refusal) => (refusal, [group(refusal), 0, 0, 0, 0]),
     };
     let sheet = Guarded::holding(random, sheet);
-    let mut answer = Guarded::dirty(random, 4);
+    let mut answer = Guarded::dirty(random, 5);
     let refusal = subject.read(sheet.inside(), answer.array());
     same("read", refusal, right)?;
     answer.expect("read: counts", &counts)?;
     sheet.expect_same("read: sheet")?;
     tally.answer("read", right);
     Ok(())
+}
+
+/// What the reader tells of an accepted sheet.
+fn counts(sheet: &Sheet) -> [u64; 5] {
+    [
+        0,
+        sheet.services.len() as u64,
+        sheet.cabinets.len() as u64,
+        sheet.streams.len() as u64,
+        sheet.barred.len() as u64,
+    ]
 }
 
 /// Every record, and some numbers that are not there.
@@ -42,47 +45,40 @@ pub fn records(
     tally: &mut Tally,
 ) -> Result<(), String> {
     let right = second::read(sheet).unwrap_or_default();
-    let wide = |words: &[u16]| words.iter().map(|&w| u64::from(w)).collect::<Vec<u64>>();
-    for number in numbers(&right) {
-        let service = right.services.get(number).map(|&d| wide(&[d]));
-        let cabinet = right.cabinets.get(number).map(|c| wide(&c.words()));
-        let stream = right.streams.get(number).map(|t| wide(&t.words()));
-        let mut record = Guarded::dirty(random, 1);
-        let found = subject.service(sheet, number, record.array());
-        expect("service", number, found, &record, service, tally)?;
-        let mut record = Guarded::dirty(random, 7);
-        let found = subject.cabinet(sheet, number, record.array());
-        expect("cabinet", number, found, &record, cabinet, tally)?;
-        let mut record = Guarded::dirty(random, 3);
-        let found = subject.stream(sheet, number, record.array());
-        expect("stream", number, found, &record, stream, tally)?;
-    }
-    Ok(())
+    let services: Vec<[u16; 1]> = right.services.iter().map(|&d| [d]).collect();
+    let cabinets: Vec<[u16; 7]> = right.cabinets.iter().map(Cabinet::words).collect();
+    let streams: Vec<[u16; 3]> = right.streams.iter().map(Stream::words).collect();
+    let barred: Vec<[u16; 2]> = right.barred.iter().map(Pair::words).collect();
+    let service = |number, record: &mut _| subject.service(sheet, number, record);
+    let cabinet = |number, record: &mut _| subject.cabinet(sheet, number, record);
+    let stream = |number, record: &mut _| subject.stream(sheet, number, record);
+    let pair = |number, record: &mut _| subject.barred(sheet, number, record);
+    each("service", &services, service, random, tally)?;
+    each("cabinet", &cabinets, cabinet, random, tally)?;
+    each("stream", &streams, stream, random, tally)?;
+    each("barred", &barred, pair, random, tally)
 }
 
-/// The numbers of all records, the next ones, and numbers that are small in fewer bits.
-fn numbers(sheet: &Sheet) -> Vec<usize> {
-    let [r, s, q] = [
-        sheet.services.len(),
-        sheet.cabinets.len(),
-        sheet.streams.len(),
-    ];
-    let mut numbers: Vec<usize> = (0..r.max(s).max(q) + 2).collect();
-    numbers.extend([256, 65_535, 65_536, 1 << 32, usize::MAX]);
-    numbers
-}
-
-fn expect(
+/// Every record of one kind, the next numbers, and numbers that are small in fewer bits.
+fn each<const N: usize>(
     name: &'static str,
-    number: usize,
-    found: u64,
-    record: &Guarded<u64>,
-    right: Option<Vec<u64>>,
+    right: &[[u16; N]],
+    call: impl Fn(usize, &mut [u64; N]) -> u64,
+    random: &mut Random,
     tally: &mut Tally,
 ) -> Result<(), String> {
-    let call = format!("{name} {number}");
-    same(&call, found, u64::from(right.is_some()))?;
-    record.expect(&call, &right.unwrap_or_default())?;
-    tally.answer(name, found);
+    let past = [256, 65_535, 65_536, 1 << 32, usize::MAX];
+    for number in (0..right.len() + 2).chain(past) {
+        let mut record = Guarded::dirty(random, N);
+        let found = call(number, record.array());
+        let words = right.get(number).map(|words| words.map(u64::from));
+        let call = format!("{name} {number}");
+        same(&call, found, u64::from(words.is_some()))?;
+        match words {
+            Some(words) => record.expect(&call, &words)?,
+            None => record.expect_same(&call)?,
+        }
+        tally.answer(name, found);
+    }
     Ok(())
 }

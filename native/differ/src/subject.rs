@@ -4,11 +4,12 @@
 /// record calls (1 if the record is there) and `weigh` (its flag). All places of `counts` and
 /// `answer` are written on every call; `record` only when the record is there.
 pub trait Subject {
-    /// Counts: group, services, cabinets, streams.
-    fn read(&self, sheet: &[u8], counts: &mut [u64; 4]) -> u64;
+    /// Counts: group, services, cabinets, streams, barred pairs.
+    fn read(&self, sheet: &[u8], counts: &mut [u64; 5]) -> u64;
     fn service(&self, sheet: &[u8], number: usize, record: &mut [u64; 1]) -> u64;
     fn cabinet(&self, sheet: &[u8], number: usize, record: &mut [u64; 7]) -> u64;
     fn stream(&self, sheet: &[u8], number: usize, record: &mut [u64; 3]) -> u64;
+    fn barred(&self, sheet: &[u8], number: usize, record: &mut [u64; 2]) -> u64;
     /// Answer: group, cost.
     fn check(&self, sheet: &[u8], plan: &[u16], answer: &mut [u64; 2]) -> u64;
     /// Answer: group, cost, count.

@@ -1,6 +1,7 @@
 //! Counts of cases by kind and of calls by answer.
 
 use second::random::Case;
+use second::random::case::Origin;
 use std::collections::BTreeMap;
 use std::fmt::{Display, Formatter, Result};
 
@@ -14,7 +15,11 @@ pub struct Tally {
 impl Tally {
     pub fn case(&mut self, case: &Case) {
         self.cases += 1;
-        *self.kinds.entry(format!("{:?}", case.origin)).or_default() += 1;
+        let kind = match case.origin {
+            Origin::Directed(_) => "Directed".to_string(),
+            origin => format!("{origin:?}"),
+        };
+        *self.kinds.entry(kind).or_default() += 1;
     }
 
     pub fn answer(&mut self, call: &'static str, answer: u64) {

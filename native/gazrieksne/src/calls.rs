@@ -6,8 +6,8 @@
 
 use crate::raw;
 
-/// `gz_read`: the refusal; counts are group, services, cabinets, streams.
-pub fn read(sheet: &[u8], counts: &mut [u64; 4]) -> u64 {
+/// `gz_read`: the refusal; counts are group, services, cabinets, streams, barred pairs.
+pub fn read(sheet: &[u8], counts: &mut [u64; 5]) -> u64 {
     // SAFETY: see the head of this file.
     unsafe { raw::gz_read(sheet.as_ptr(), sheet.len(), counts) }
 }
@@ -28,6 +28,12 @@ pub fn cabinet(sheet: &[u8], number: usize, record: &mut [u64; 7]) -> u64 {
 pub fn stream(sheet: &[u8], number: usize, record: &mut [u64; 3]) -> u64 {
     // SAFETY: see the head of this file.
     unsafe { raw::gz_stream(sheet.as_ptr(), sheet.len(), number, record) }
+}
+
+/// `gz_barred`: 1 if the pair is there.
+pub fn barred(sheet: &[u8], number: usize, record: &mut [u64; 2]) -> u64 {
+    // SAFETY: see the head of this file.
+    unsafe { raw::gz_barred(sheet.as_ptr(), sheet.len(), number, record) }
 }
 
 /// `gz_check`: the refusal; the answer is group, cost.

@@ -9,12 +9,13 @@ mod refusal;
 
 pub use refusal::{Group, Refusal};
 
-/// The numbers of services, cabinets and streams of an accepted sheet.
+/// The numbers of services, cabinets, streams and barred pairs of an accepted sheet.
 #[derive(Clone, Copy, Debug, PartialEq, Eq)]
 pub struct Counts {
     pub services: usize,
     pub cabinets: usize,
     pub streams: usize,
+    pub pairs: usize,
 }
 
 impl Counts {
@@ -44,6 +45,13 @@ pub struct Stream {
     pub demand: u64,
 }
 
+/// A service and a cabinet that it is barred from.
+#[derive(Clone, Copy, Debug, PartialEq, Eq)]
+pub struct Pair {
+    pub service: u64,
+    pub cabinet: u64,
+}
+
 /// The cost of a cheapest plan and the count of splits weighed.
 #[derive(Clone, Copy, Debug, PartialEq, Eq)]
 pub struct Planned {
@@ -53,15 +61,16 @@ pub struct Planned {
 
 /// Reads a sheet.
 pub fn read(sheet: &[u8]) -> Result<Counts, Refusal> {
-    let mut counts = [0; 4];
+    let mut counts = [0; 5];
     let number = calls::read(sheet, &mut counts);
-    let [group, services, cabinets, streams] = counts;
+    let [group, services, cabinets, streams, pairs] = counts;
     match Refusal::of(number, group, 0) {
         Some(refusal) => Err(refusal),
         None => Ok(Counts {
             services: services as usize,
             cabinets: cabinets as usize,
             streams: streams as usize,
+            pairs: pairs as usize,
         }),
     }
 }
@@ -102,6 +111,14 @@ pub fn stream(sheet: &[u8], number: usize) -> Option<Stream> {
     let found = calls::stream(sheet, number, &mut record) == 1;
     let [from, to, demand] = record;
     found.then_some(Stream { from, to, demand })
+}
+
+/// A barred pair as it stands in the sheet, if the sheet is accepted and has it.
+pub fn barred(sheet: &[u8], number: usize) -> Option<Pair> {
+    let mut record = [0; 2];
+    let found = calls::barred(sheet, number, &mut record) == 1;
+    let [service, cabinet] = record;
+    found.then_some(Pair { service, cabinet })
 }
 
 /// The cost of a plan that gives each service a cabinet.

@@ -1,7 +1,7 @@
 //! The functions of the archive, as `gazrieksne.h` declares them.
 
 unsafe extern "C" {
-    pub fn gz_read(sheet: *const u8, sheet_len: usize, counts: *mut [u64; 4]) -> u64;
+    pub fn gz_read(sheet: *const u8, sheet_len: usize, counts: *mut [u64; 5]) -> u64;
     pub fn gz_service(
         sheet: *const u8,
         sheet_len: usize,
@@ -19,6 +19,12 @@ unsafe extern "C" {
         sheet_len: usize,
         number: usize,
         record: *mut [u64; 3],
+    ) -> u64;
+    pub fn gz_barred(
+        sheet: *const u8,
+        sheet_len: usize,
+        number: usize,
+        record: *mut [u64; 2],
     ) -> u64;
     pub fn gz_check(
         sheet: *const u8,

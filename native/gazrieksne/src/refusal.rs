@@ -41,7 +41,7 @@ impl Display for Refusal {
     fn fmt(&self, f: &mut Formatter<'_>) -> std::fmt::Result {
         f.write_str(match self.number {
             1 => "the sheet has fewer than 16 bytes",
-            2 => "services, cabinets or streams outside the limits, or the eighth word not 0",
+            2 => "services, cabinets or streams outside the limits",
             3 => "the length word is not the sheet's length",
             4 => "a block starts in the header or ends past the sheet",
             5 => "two blocks share a byte",
@@ -56,6 +56,9 @@ impl Display for Refusal {
             14 => "the plan names a cabinet that isn't there",
             15 => "a cabinet is overfull",
             16 => "a link direction is overfull",
+            18 => "the barred block is outside the sheet, too long, or shares a byte",
+            19 => "a barred pair names no service or no cabinet",
+            20 => "a service is on a cabinet that it is barred from",
             _ => "an unknown refusal",
         })
     }

@@ -1,6 +1,6 @@
 //! The calls on the measured road M.
 
-use gazrieksne::{Cabinet, Counts, Group, Planned, Stream};
+use gazrieksne::{Cabinet, Counts, Group, Pair, Planned, Refusal, Stream};
 
 const M: [u16; 34] = [
     2, 3, 1, 16, 20, 62, 68, 0, 2, 2, 65535, 4, 5, 0, 0, 0, 0, 0, 3, 1, 6, 2, 6, 1, 0, 3, 2, 2, 1,
@@ -11,12 +11,23 @@ fn m() -> Vec<u8> {
     M.iter().flat_map(|w| w.to_le_bytes()).collect()
 }
 
+/// M with a block of barred pairs behind it.
+fn m_barred(pairs: &[[u16; 2]]) -> Vec<u8> {
+    let mut words = M.to_vec();
+    words[6] += 2 + 4 * pairs.len() as u16;
+    words[7] = 68;
+    words.push(pairs.len() as u16);
+    words.extend(pairs.concat());
+    words.iter().flat_map(|w| w.to_le_bytes()).collect()
+}
+
 #[test]
 fn read_and_records() {
     let counts = Counts {
         services: 2,
         cabinets: 3,
         streams: 1,
+        pairs: 0,
     };
     assert_eq!(gazrieksne::read(&m()), Ok(counts));
     assert_eq!(counts.entries(), 12);
@@ -60,6 +71,51 @@ fn check_and_plan() {
     assert_eq!((&costs[..12], &choices[..12]), (&[0; 12][..], &[0; 12][..]));
     let refusal = gazrieksne::plan(&m(), &mut [], &mut costs, &mut choices).unwrap_err();
     assert_eq!((refusal.number, refusal.group), (10, Group::Lender));
+}
+
+#[test]
+fn barred_pairs() {
+    let sheet = m_barred(&[[0, 0], [1, 2]]);
+    assert_eq!(gazrieksne::read(&sheet).map(|counts| counts.pairs), Ok(2));
+    let last = Pair {
+        service: 1,
+        cabinet: 2,
+    };
+    assert_eq!(gazrieksne::barred(&sheet, 1), Some(last));
+    assert_eq!(gazrieksne::barred(&sheet, 2), None);
+    assert_eq!(gazrieksne::barred(&m(), 0), None);
+    for (pair, length, number) in [([0, 0], 1, 18), ([2, 0], 0, 19), ([0, 3], 0, 19)] {
+        let mut sheet = m_barred(&[pair]);
+        sheet.truncate(sheet.len() - length);
+        sheet[12] -= length as u8;
+        let refusal = gazrieksne::read(&sheet).unwrap_err();
+        assert_eq!(
+            (refusal.number, refusal.group),
+            (number, Group::SheetWriter)
+        );
+    }
+}
+
+#[test]
+fn plans_without_barred_pairs() {
+    let (mut output, mut costs, mut choices) = ([9; 2], [9; 12], [9; 12]);
+    let sheet = m_barred(&[[0, 0]]);
+    let refusal = gazrieksne::check(&sheet, &[0, 1]).unwrap_err();
+    assert_eq!((refusal.number, refusal.group), (20, Group::PlanWriter));
+    let planned = gazrieksne::plan(&sheet, &mut output, &mut costs, &mut choices);
+    let right = Planned {
+        cost: 15,
+        count: 15,
+    };
+    assert_eq!((planned, output), (Ok(right), [1, 2]));
+    let sheet = m_barred(&[[0, 0], [0, 1], [0, 2]]);
+    let planned = gazrieksne::plan(&sheet, &mut output, &mut costs, &mut choices);
+    let no_plan = Refusal {
+        number: 12,
+        group: Group::Road,
+        count: 12,
+    };
+    assert_eq!((planned, output), (Err(no_plan), [1, 2]));
 }
 
 #[test]

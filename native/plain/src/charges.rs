@@ -3,8 +3,10 @@
 use crate::NONE;
 use second::{Cabinet, Sheet};
 
-/// For each set: the demand of its services, and of the streams that leave and enter it.
+/// For each set: the demand of its services, and of the streams that leave and enter it. For each
+/// cabinet: the set of services that are barred from it.
 pub struct Charges {
+    barred: Vec<usize>,
     demand: Vec<u64>,
     out: Vec<u64>,
     into: Vec<u64>,
@@ -26,16 +28,18 @@ impl Charges {
             inside.map(|(_, &demand)| u64::from(demand)).sum()
         };
         Charges {
+            barred: barred(sheet),
             demand: sets.clone().map(demand).collect(),
             out: sets.clone().map(|set| crossing(set, true)).collect(),
             into: sets.map(|set| crossing(set, false)).collect(),
         }
     }
 
-    /// The row of a cabinet that holds each set alone.
-    pub fn cabinet(&self, cabinet: &Cabinet, row: &mut [u64]) {
-        for (figure, &demand) in row.iter_mut().zip(&self.demand) {
-            *figure = if demand <= u64::from(cabinet.capacity) {
+    /// The row of cabinet c when it holds each set alone.
+    pub fn cabinet(&self, c: usize, cabinet: &Cabinet, row: &mut [u64]) {
+        let barred = self.barred[c];
+        for (set, (figure, &demand)) in row.iter_mut().zip(&self.demand).enumerate() {
+            *figure = if set & barred == 0 && demand <= u64::from(cabinet.capacity) {
                 demand * u64::from(cabinet.price)
             } else {
                 NONE
@@ -56,4 +60,13 @@ impl Charges {
             };
         }
     }
+}
+
+/// The services barred from each cabinet, as a set.
+fn barred(sheet: &Sheet) -> Vec<usize> {
+    let mut barred = vec![0; sheet.cabinets.len()];
+    for pair in &sheet.barred {
+        barred[usize::from(pair.cabinet)] |= 1 << pair.service;
+    }
+    barred
 }

@@ -71,7 +71,7 @@ fn fill(sheet: &Sheet, costs: &mut [u64], choices: &mut [u16]) -> u64 {
     let mut link = vec![0; row];
     let mut count = 0;
     for (p, children) in children(sheet).iter().enumerate().rev() {
-        charges.cabinet(&sheet.cabinets[p], &mut costs[p * row..][..row]);
+        charges.cabinet(p, &sheet.cabinets[p], &mut costs[p * row..][..row]);
         for &c in children {
             charges.link(&sheet.cabinets[c], &mut link);
             let (low, high) = costs.split_at_mut(c * row);

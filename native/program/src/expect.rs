@@ -61,7 +61,8 @@ fn places(lines: &str) -> Result<Vec<u16>, String> {
 #[cfg(test)]
 mod tests {
     use super::*;
-    use second::measured::{m, roads};
+    use second::build::tight;
+    use second::measured::{m, m_barred, roads};
 
     #[test]
     fn m0_to_the_letter() {
@@ -89,6 +90,19 @@ mod tests {
         assert!(agrees(&m(), &right, "cost 15\nweighed 18\n0 0\n1 1\n").is_ok());
         assert!(agrees(&m(), &right, "cost 15\nweighed 18\n0 1\n1 2\n").is_ok());
         assert!(agrees(&m(), &right, "cost 15\nweighed 18\n0 1\n1 0\n").is_err());
+    }
+
+    #[test]
+    fn no_barred_pair() {
+        let sheet = tight(&m_barred(&[[0, 0]]));
+        let right = answer(&sheet);
+        assert!(agrees(&sheet, &right, "cost 15\nweighed 15\n0 1\n1 2\n").is_ok());
+        assert!(agrees(&sheet, &right, "cost 15\nweighed 15\n0 0\n1 1\n").is_err());
+        let cut = &sheet[..sheet.len() - 1];
+        assert!(agrees(cut, &answer(cut), "refused 3\n").is_ok());
+        let unnamed = tight(&m_barred(&[[0, 3]]));
+        assert!(agrees(&unnamed, &answer(&unnamed), "refused 19\n").is_ok());
+        assert!(agrees(&unnamed, &answer(&unnamed), "refused 18\n").is_err());
     }
 
     #[test]

@@ -1,8 +1,9 @@
 //! The sheets that the program is fed.
 
+use second::barred;
 use second::build::tight;
-use second::limits::NO_PARENT;
-use second::measured::{m, roads};
+use second::limits::{COUNT, NO_PARENT, PAIR};
+use second::measured::{m, m_barred, roads};
 use second::random::{Random, Size, case};
 use second::{Cabinet, Layout, Sheet, Stream, build};
 
@@ -12,7 +13,8 @@ const SIZE: Size = Size {
     cabinets: 6,
 };
 
-/// Measured roads, sheets at the program's own limits, and so many random cases.
+/// Measured roads, sheets at the program's own limits, sheets with barred pairs that are written
+/// down, and so many random cases.
 pub fn all(cases: usize, seed: u64) -> Vec<(String, Vec<u8>)> {
     let mut sheets: Vec<(String, Vec<u8>)> = vec![];
     for road in roads() {
@@ -20,6 +22,9 @@ pub fn all(cases: usize, seed: u64) -> Vec<(String, Vec<u8>)> {
     }
     for (name, sheet) in edges() {
         sheets.push((name.to_string(), sheet));
+    }
+    for directed in barred::all() {
+        sheets.push((directed.name.to_string(), directed.sheet));
     }
     let mut random = Random::new(seed);
     for number in 0..cases {
@@ -40,12 +45,23 @@ fn padded(length: usize) -> Vec<u8> {
     build(&sheet, &layout)
 }
 
+/// M with as many pairs as there is room for behind it, in a sheet of this length.
+fn pairs(length: usize) -> Vec<u8> {
+    let room = length - m().len() - COUNT;
+    let sheet = m_barred(&vec![[0, 0]; room / PAIR]);
+    let layout = Layout {
+        length,
+        ..Layout::tight(&sheet)
+    };
+    build(&sheet, &layout)
+}
+
 /// A star with so many services of demand 1 and cabinets of capacity 3.
 fn star(r: usize, s: usize) -> Vec<u8> {
     let mut sheet = Sheet {
         services: vec![1; r],
         cabinets: vec![Cabinet::from_words([0, 3, 2, 4, 1, 4, 1]); s],
-        streams: vec![],
+        ..Sheet::default()
     };
     sheet.cabinets[0] = Cabinet::from_words([NO_PARENT, 3, 1, 0, 0, 0, 0]);
     if r > 1 {
@@ -63,6 +79,8 @@ fn edges() -> Vec<(&'static str, Vec<u8>)> {
         ("15 bytes", m()[..15].to_vec()),
         ("4,096 bytes", padded(4096)),
         ("4,097 bytes", padded(4097)),
+        ("4,096 bytes, mostly pairs", pairs(4096)),
+        ("4,098 bytes, mostly pairs", pairs(4098)),
         ("4,097 bytes and wrong", too_long_and_wrong),
         ("5,000 zeros", vec![0; 5000]),
         ("200,000 bytes", vec![7; 200_000]),

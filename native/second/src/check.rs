@@ -1,5 +1,6 @@
-//! The check: the cost of a plan, or the lowest refusal.
+//! The check: the cost of a plan, or the first refusal.
 
+use crate::bars::Bars;
 use crate::path::{Step, path};
 use crate::read::read;
 use crate::sheet::Sheet;
@@ -44,7 +45,7 @@ impl Loads {
     }
 }
 
-/// The cost of the plan on the sheet, or the lowest refusal: 1 to 9, then 13 to 16.
+/// The cost of the plan on the sheet, or the first refusal: the reader's, then 13, 14, 20, 15, 16.
 pub fn check(bytes: &[u8], plan: &[u16]) -> Result<u64, u64> {
     let sheet = read(bytes)?;
     check_sheet(&sheet, plan)
@@ -58,15 +59,20 @@ pub fn check_sheet(sheet: &Sheet, plan: &[u16]) -> Result<u64, u64> {
     if plan.iter().any(|&c| usize::from(c) >= sheet.cabinets.len()) {
         return Err(14);
     }
-    judge(sheet, plan, |from, to| path(sheet, from, to))
+    let bars = Bars::new(sheet);
+    judge(sheet, &bars, plan, |from, to| path(sheet, from, to))
 }
 
 /// Validity and cost of a plan that has a cabinet of the road for each service.
 pub fn judge<P: AsRef<[Step]>>(
     sheet: &Sheet,
+    bars: &Bars,
     plan: &[u16],
     path: impl Fn(usize, usize) -> P,
 ) -> Result<u64, u64> {
+    if bars.forbid(plan) {
+        return Err(20);
+    }
     let loads = loads(sheet, plan, path);
     let s = sheet.cabinets.len();
     if !(0..s).all(|c| loads.holds(sheet, c)) {

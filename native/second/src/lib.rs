@@ -4,6 +4,8 @@
 //! planner tries every plan, and the splits weighed are counted by their definition.
 #![forbid(unsafe_code)]
 
+pub mod barred;
+pub mod bars;
 pub mod bound;
 pub mod build;
 pub mod check;
@@ -25,5 +27,5 @@ pub use check::check;
 pub use plan::{Answer, plan};
 pub use read::read;
 pub use refusal::group;
-pub use sheet::{Cabinet, Sheet, Stream};
+pub use sheet::{Cabinet, Pair, Sheet, Stream};
 pub use weigh::weigh;

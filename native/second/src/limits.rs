@@ -6,6 +6,8 @@ pub const SERVICES: usize = 10;
 pub const CABINETS: usize = 200;
 /// The most streams, q.
 pub const STREAMS: usize = 100;
+/// The most barred pairs; repeated pairs count each.
+pub const MAX_PAIRS: usize = 2_000;
 /// The largest demand, capacity or price.
 pub const AMOUNT: u16 = 10_000;
 /// The parent that the root names.
@@ -19,3 +21,7 @@ pub const SERVICE: usize = 2;
 pub const CABINET: usize = 14;
 /// Bytes of a stream record.
 pub const STREAM: usize = 6;
+/// Bytes of the count word that the block of barred pairs begins with.
+pub const COUNT: usize = 2;
+/// Bytes of a barred pair.
+pub const PAIR: usize = 4;

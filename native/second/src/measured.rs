@@ -2,7 +2,7 @@
 
 use crate::build::tight;
 use crate::limits::NO_PARENT;
-use crate::sheet::{Cabinet, Sheet, Stream};
+use crate::sheet::{Cabinet, Pair, Sheet, Stream};
 
 /// A road and what the planner answers for it: the refusal, the cost, and the count where the
 /// papers give it.
@@ -39,7 +39,15 @@ pub fn m_records() -> Sheet {
             Cabinet::from_words([0, 3, 2, 2, 1, 6, 1]),
         ],
         streams: vec![Stream::from_words([0, 1, 3])],
+        barred: vec![],
     }
+}
+
+/// M with barred pairs, each a service and a cabinet.
+pub fn m_barred(pairs: &[[u16; 2]]) -> Sheet {
+    let mut sheet = m_records();
+    sheet.barred = pairs.iter().map(|&words| Pair::from_words(words)).collect();
+    sheet
 }
 
 /// M with another root capacity and another up capacity of cabinet 1.
@@ -66,7 +74,7 @@ fn one_child() -> Sheet {
             Cabinet::from_words([NO_PARENT, 5, 1, 0, 0, 0, 0]),
             Cabinet::default(),
         ],
-        streams: vec![],
+        ..Sheet::default()
     }
 }
 
@@ -87,6 +95,7 @@ pub fn roads() -> Vec<Measured> {
         cost,
         count,
     };
+    let nowhere = m_barred(&[[0, 0], [0, 1], [0, 2]]);
     vec![
         road("M", m_records(), 0, 15, Some(18)),
         road("M, root capacity 3", m_with(3, 6), 0, 15, Some(17)),
@@ -96,5 +105,7 @@ pub fn roads() -> Vec<Measured> {
         road("Z", z(), 0, 12, None),
         road("root with one child", one_child(), 0, 3, Some(3)),
         road("30 bytes", least(), 0, 0, Some(0)),
+        road("M, (0,0) barred", m_barred(&[[0, 0]]), 0, 15, Some(15)),
+        road("M, service 0 barred", nowhere, 12, 0, Some(12)),
     ]
 }

@@ -1,5 +1,6 @@
 //! The planner: tries every plan and keeps a cheapest valid one.
 
+use crate::bars::Bars;
 use crate::check::judge;
 use crate::path::Paths;
 use crate::read::read;
@@ -84,10 +85,11 @@ pub fn solve(sheet: &Sheet) -> Answer {
 
 /// The first of the cheapest valid plans and its cost.
 fn cheapest(sheet: &Sheet, paths: &Paths) -> Option<(u64, Vec<u16>)> {
+    let bars = Bars::new(sheet);
     let mut best: Option<(u64, Vec<u16>)> = None;
     let mut plan = vec![0; sheet.services.len()];
     loop {
-        if let Ok(cost) = judge(sheet, &plan, |a, b| paths.between(a, b))
+        if let Ok(cost) = judge(sheet, &bars, &plan, |a, b| paths.between(a, b))
             && best.as_ref().is_none_or(|(least, _)| cost < *least)
         {
             best = Some((cost, plan.clone()));

@@ -1,9 +1,10 @@
-//! The reader: the records of a sheet, or the lowest refusal that applies to it.
+//! The reader: the records of a sheet, or the first refusal that applies to it.
 
 use crate::limits::{
-    AMOUNT, CABINET, CABINETS, HEADER, NO_PARENT, SERVICE, SERVICES, STREAM, STREAMS,
+    AMOUNT, CABINET, CABINETS, COUNT, HEADER, MAX_PAIRS, NO_PARENT, PAIR, SERVICE, SERVICES,
+    STREAM, STREAMS,
 };
-use crate::sheet::{Cabinet, Sheet, Stream};
+use crate::sheet::{Cabinet, Pair, Sheet, Stream};
 
 /// A block of the sheet: where it starts and how many bytes it has.
 struct Block {
@@ -11,13 +12,13 @@ struct Block {
     size: usize,
 }
 
-/// Reads a sheet. The error is the lowest refusal, 1 to 9, over the whole sheet.
+/// Reads a sheet. The error is the first refusal over the whole sheet: 1 to 9, then 18, then 19.
 pub fn read(bytes: &[u8]) -> Result<Sheet, u64> {
     refuse(bytes.len() < HEADER, 1)?;
     let header: [usize; 8] = std::array::from_fn(|i| usize::from(word(bytes, 2 * i)));
-    let [r, s, q, services, cabinets, streams, length, last] = header;
+    let [r, s, q, services, cabinets, streams, length, barred] = header;
     let counts = r <= SERVICES && (1..=CABINETS).contains(&s) && q <= STREAMS;
-    refuse(!counts || last != 0, 2)?;
+    refuse(!counts, 2)?;
     refuse(length != bytes.len(), 3)?;
     let blocks = [
         Block::new(services, r * SERVICE),
@@ -26,11 +27,15 @@ pub fn read(bytes: &[u8]) -> Result<Sheet, u64> {
     ];
     refuse(blocks.iter().any(|b| !b.inside(length)), 4)?;
     refuse(share(&blocks), 5)?;
-    let sheet = records(bytes, [r, s, q], [services, cabinets, streams]);
+    let mut sheet = records(bytes, [r, s, q], [services, cabinets, streams]);
     refuse(!amounts(&sheet), 6)?;
     refuse(!parents(&sheet), 7)?;
     refuse(!ends(&sheet), 8)?;
     refuse(sheet.cabinets[0].words()[3..] != [0; 4], 9)?;
+    if barred != 0 {
+        sheet.barred = pairs(bytes, barred, &blocks)?;
+    }
+    refuse(!named(&sheet), 19)?;
     Ok(sheet)
 }
 
@@ -74,7 +79,7 @@ fn share(blocks: &[Block; 3]) -> bool {
     a.shares(b) || a.shares(c) || b.shares(c)
 }
 
-/// All records, each block from its offset.
+/// All records but the barred pairs, each block from its offset.
 fn records(bytes: &[u8], counts: [usize; 3], offsets: [usize; 3]) -> Sheet {
     let [r, s, q] = counts;
     let [services, cabinets, streams] = offsets;
@@ -88,7 +93,20 @@ fn records(bytes: &[u8], counts: [usize; 3], offsets: [usize; 3]) -> Sheet {
         streams: (0..q)
             .map(|k| Stream::from_words(words(bytes, streams + STREAM * k)))
             .collect(),
+        barred: vec![],
     }
+}
+
+/// The barred pairs from their block's offset. The error is 18 where the block is not inside the
+/// sheet, has too many pairs, or shares a byte with one of the other blocks.
+fn pairs(bytes: &[u8], offset: usize, others: &[Block; 3]) -> Result<Vec<Pair>, u64> {
+    refuse(!Block::new(offset, COUNT).inside(bytes.len()), 18)?;
+    let count = usize::from(word(bytes, offset));
+    let block = Block::new(offset, COUNT + PAIR * count);
+    refuse(count > MAX_PAIRS || !block.inside(bytes.len()), 18)?;
+    refuse(others.iter().any(|other| block.shares(other)), 18)?;
+    let pair = |k| Pair::from_words(words(bytes, offset + COUNT + PAIR * k));
+    Ok((0..count).map(pair).collect())
 }
 
 /// No demand, capacity or price is above the largest amount; a cabinet's parent is none of them.
@@ -117,4 +135,11 @@ fn ends(sheet: &Sheet) -> bool {
     let below = |end: u16| usize::from(end) < r;
     let mut streams = sheet.streams.iter();
     streams.all(|t| below(t.from) && below(t.to) && t.from != t.to)
+}
+
+/// Each barred pair names a service and a cabinet of the sheet.
+fn named(sheet: &Sheet) -> bool {
+    let (r, s) = (sheet.services.len(), sheet.cabinets.len());
+    let mut pairs = sheet.barred.iter();
+    pairs.all(|p| usize::from(p.service) < r && usize::from(p.cabinet) < s)
 }

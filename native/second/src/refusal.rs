@@ -2,22 +2,22 @@
 
 /// No refusal.
 pub const NONE: u64 = 0;
-/// Whoever wrote the sheet: 1 to 9.
+/// Whoever wrote the sheet: 1 to 9, 18 and 19.
 pub const SHEET_WRITER: u64 = 1;
 /// Whoever lends to the planner: 10 and 11.
 pub const LENDER: u64 = 2;
 /// The road: 12.
 pub const ROAD: u64 = 3;
-/// Whoever wrote the plan: 13 to 16.
+/// Whoever wrote the plan: 13 to 16, and 20.
 pub const PLAN_WRITER: u64 = 4;
 
 /// The group of a refusal number; 0 for none.
 pub fn group(number: u64) -> u64 {
     match number {
-        1..=9 => SHEET_WRITER,
+        1..=9 | 18 | 19 => SHEET_WRITER,
         10 | 11 => LENDER,
         12 => ROAD,
-        13..=16 => PLAN_WRITER,
+        13..=16 | 20 => PLAN_WRITER,
         _ => NONE,
     }
 }

@@ -1,11 +1,13 @@
 //! The records of a sheet, by number.
 
-/// What an accepted sheet says: the demand of each service, each cabinet and each stream.
+/// What an accepted sheet says: the demand of each service, each cabinet, each stream, and the
+/// barred pairs as they stand.
 #[derive(Clone, Debug, Default, PartialEq, Eq)]
 pub struct Sheet {
     pub services: Vec<u16>,
     pub cabinets: Vec<Cabinet>,
     pub streams: Vec<Stream>,
+    pub barred: Vec<Pair>,
 }
 
 /// A cabinet and the link to its parent.
@@ -26,6 +28,13 @@ pub struct Stream {
     pub from: u16,
     pub to: u16,
     pub demand: u16,
+}
+
+/// A service and a cabinet that it is barred from.
+#[derive(Clone, Copy, Debug, Default, PartialEq, Eq)]
+pub struct Pair {
+    pub service: u16,
+    pub cabinet: u16,
 }
 
 impl Cabinet {
@@ -74,5 +83,17 @@ impl Stream {
     /// The words of the record in the order of the sheet.
     pub fn words(&self) -> [u16; 3] {
         [self.from, self.to, self.demand]
+    }
+}
+
+impl Pair {
+    /// The pair with these words in the order of the sheet.
+    pub fn from_words([service, cabinet]: [u16; 2]) -> Pair {
+        Pair { service, cabinet }
+    }
+
+    /// The words of the pair in the order of the sheet.
+    pub fn words(&self) -> [u16; 2] {
+        [self.service, self.cabinet]
     }
 }

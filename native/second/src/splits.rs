@@ -1,5 +1,6 @@
 //! The count of splits weighed, by its definition.
 
+use crate::bars::Bars;
 use crate::check::Loads;
 use crate::path::{Paths, ancestors};
 use crate::plan::advance;
@@ -14,12 +15,13 @@ pub fn count(sheet: &Sheet, paths: &Paths) -> u64 {
 /// The same count with another reading of "the part before c".
 pub fn count_over(sheet: &Sheet, paths: &Paths, part: impl Fn(usize) -> Vec<usize>) -> u64 {
     let r = sheet.services.len();
+    let bars = Bars::new(sheet);
     let mut total = 0;
     for c in 1..sheet.cabinets.len() {
         let part = part(c);
         let p = usize::from(sheet.cabinets[c].parent);
         for mask in 0..1_u32 << r {
-            if can_be_placed(sheet, paths, &part, p, mask) {
+            if can_be_placed(sheet, paths, &bars, &part, p, mask) {
                 // Each service outside A is in X or not.
                 total += 1 << (r as u32 - mask.count_ones());
             }
@@ -39,8 +41,16 @@ pub fn part_before(sheet: &Sheet, c: usize) -> Vec<usize> {
     (0..sheet.cabinets.len()).filter(inside).collect()
 }
 
-/// Some placing of the services of `mask` on the part keeps every capacity of the part.
-pub fn can_be_placed(sheet: &Sheet, paths: &Paths, part: &[usize], p: usize, mask: u32) -> bool {
+/// Some placing of the services of `mask` on the part uses no barred pair and keeps every capacity
+/// of the part.
+fn can_be_placed(
+    sheet: &Sheet,
+    paths: &Paths,
+    bars: &Bars,
+    part: &[usize],
+    p: usize,
+    mask: u32,
+) -> bool {
     let set: Vec<usize> = (0..sheet.services.len())
         .filter(|i| mask >> i & 1 == 1)
         .collect();
@@ -50,13 +60,19 @@ pub fn can_be_placed(sheet: &Sheet, paths: &Paths, part: &[usize], p: usize, mas
         for (&service, &k) in set.iter().zip(&choice) {
             place[service] = Some(part[usize::from(k)]);
         }
-        if keeps(sheet, paths, part, p, &place) {
+        if allowed(bars, &place) && keeps(sheet, paths, part, p, &place) {
             return true;
         }
         if !advance(&mut choice, part.len()) {
             return false;
         }
     }
+}
+
+/// No placed service is on a cabinet that it is barred from.
+fn allowed(bars: &Bars, place: &[Option<usize>]) -> bool {
+    let mut places = place.iter().enumerate();
+    places.all(|(service, cabinet)| cabinet.is_none_or(|c| !bars.bar(service, c)))
 }
 
 /// The placed services and their streams overfill no cabinet of the part and no link in it. The

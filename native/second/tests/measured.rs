@@ -1,7 +1,7 @@
 //! The measured roads answer as the papers say.
 
 use second::build::tight;
-use second::measured::{m, m_records, roads, z};
+use second::measured::{m, m_barred, m_records, roads, z};
 use second::{check, plan, read};
 
 #[test]
@@ -43,6 +43,16 @@ fn the_only_plan_of_m0_and_the_root_of_z() {
     assert_eq!(plan(m0, 2, 12, 12).plan, Some(vec![1, 2]));
     let answer = plan(&tight(&z()), 3, 24, 24);
     assert_eq!(answer.plan.map(|p| p[2]), Some(0));
+}
+
+#[test]
+fn m_with_the_root_barred() {
+    let sheet = tight(&m_barred(&[[0, 0]]));
+    assert_eq!(check(&sheet, &[0, 1]), Err(20));
+    let cheapest = [0, 1, 2].map(|a| [0, 1, 2].map(|b| [a, b])).concat();
+    let cheapest = cheapest.iter().filter(|p| check(&sheet, *p) == Ok(15));
+    assert_eq!(cheapest.collect::<Vec<_>>(), [&[1, 2]]);
+    assert_eq!(plan(&sheet, 2, 12, 12).plan, Some(vec![1, 2]));
 }
 
 #[test]

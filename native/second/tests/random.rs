@@ -1,7 +1,9 @@
 //! The random cases reach every refusal, and accepted ones read back as they were written.
 
+use second::bars::Bars;
+use second::random::damage::{Damage, damage};
 use second::random::{Random, Size, case, layout::layout, road::road};
-use second::{build, check, plan, read};
+use second::{Sheet, build, check, plan, read};
 use std::collections::BTreeMap;
 
 const SIZE: Size = Size {
@@ -38,8 +40,59 @@ fn every_refusal_is_reached() {
             }
         }
     }
-    for number in 0..=16 {
+    for number in (0..=16).chain(18..=20) {
         let times = reached.get(&number).copied().unwrap_or(0);
         assert!(times >= 10, "refusal {number} reached {times} times");
     }
+}
+
+/// What is told apart about the barred pairs of a sheet.
+fn manners(sheet: &Sheet, block: bool) -> Vec<&'static str> {
+    let bars = Bars::new(sheet);
+    let (r, s) = (sheet.services.len(), sheet.cabinets.len());
+    let pairs = &sheet.barred;
+    let repeated = (1..pairs.len()).any(|k| pairs[..k].contains(&pairs[k]));
+    let service = (0..r).any(|i| (0..s).all(|c| bars.bar(i, c)));
+    let cabinet = r > 0 && (0..s).any(|c| (0..r).all(|i| bars.bar(i, c)));
+    let manners = [
+        ("no block", !block),
+        ("a count of 0", block && pairs.is_empty()),
+        ("a few pairs", (1..4).contains(&pairs.len())),
+        ("many pairs", pairs.len() > 8),
+        ("a repeated pair", repeated),
+        ("a service barred everywhere", service),
+        ("a cabinet barred to all", cabinet),
+        ("1,999 pairs", pairs.len() == 1999),
+        ("2,000 pairs", pairs.len() == 2000),
+    ];
+    let apply = manners.into_iter().filter(|(_, applies)| *applies);
+    apply.map(|(name, _)| name).collect()
+}
+
+#[test]
+fn barred_pairs_in_every_manner() {
+    let mut random = Random::new(3);
+    let mut seen: BTreeMap<&str, usize> = BTreeMap::new();
+    for _ in 0..4000 {
+        let (_, sheet) = road(&mut random, SIZE);
+        let block = layout(&mut random, &sheet).offsets[3] != 0;
+        for manner in manners(&sheet, block) {
+            *seen.entry(manner).or_default() += 1;
+        }
+    }
+    assert_eq!(seen.len(), 9, "{seen:?}");
+}
+
+#[test]
+fn damage_to_barred_pairs_is_refused() {
+    let mut random = Random::new(4);
+    let mut times = 0;
+    for _ in 0..4000 {
+        let (_, sheet) = road(&mut random, SIZE);
+        if let (Damage::For(number @ (18 | 19)), bytes) = damage(&mut random, &sheet) {
+            assert_eq!(read(&bytes), Err(number));
+            times += 1;
+        }
+    }
+    assert!(times > 100, "{times} times");
 }

@@ -21,8 +21,9 @@ fn with_word(at: usize, word: u16) -> Option<u64> {
 
 /// M in another layout.
 fn laid(offsets: [usize; 3], length: usize) -> Option<u64> {
+    let [services, cabinets, streams] = offsets;
     let layout = Layout {
-        offsets,
+        offsets: [services, cabinets, streams, 0],
         length,
         gap: 0,
     };
@@ -38,7 +39,6 @@ fn one_to_three() {
     assert_eq!(with_word(2, 0), Some(2));
     assert_eq!(with_word(2, 201), Some(2));
     assert_eq!(with_word(4, 101), Some(2));
-    assert_eq!(with_word(14, 1), Some(2));
     assert_eq!(with_word(12, 67), Some(3));
     assert_eq!(read(&m()[..67]), Err(3));
     let mut long = m();
@@ -65,7 +65,7 @@ fn empty_blocks() {
     sheet.streams.clear();
     let at = |offset| {
         let layout = Layout {
-            offsets: [16, 20, offset],
+            offsets: [16, 20, offset, 0],
             length: 62,
             gap: 0,
         };
@@ -114,7 +114,7 @@ fn seven_and_eight() {
 }
 
 #[test]
-fn the_lowest_is_given() {
+fn the_first_is_given() {
     let several = |m: &mut Sheet| {
         m.cabinets[0].up_price = 1;
         m.streams[0].to = 9;
@@ -168,8 +168,10 @@ fn streams_add_up() {
 
 #[test]
 fn groups() {
-    let groups: Vec<u64> = (0..18).map(group).collect();
-    let expected = [0, 1, 1, 1, 1, 1, 1, 1, 1, 1, 2, 2, 3, 4, 4, 4, 4, 0];
+    let groups: Vec<u64> = (0..22).map(group).collect();
+    let expected = [
+        0, 1, 1, 1, 1, 1, 1, 1, 1, 1, 2, 2, 3, 4, 4, 4, 4, 0, 1, 1, 4, 0,
+    ];
     assert_eq!(groups, expected);
 }
 

@@ -3,7 +3,7 @@
 use second::limits::NO_PARENT;
 use second::path::{Paths, Step, path};
 use second::splits::{count, part_before};
-use second::{Cabinet, Sheet, Stream};
+use second::{Cabinet, Pair, Sheet, Stream};
 
 /// Cabinets 1 and 2 under the root, and 3 under 1.
 fn fork() -> Sheet {
@@ -14,7 +14,7 @@ fn fork() -> Sheet {
     Sheet {
         services: vec![1],
         cabinets: [NO_PARENT, 0, 0, 1].map(cabinet).to_vec(),
-        streams: vec![],
+        ..Sheet::default()
     }
 }
 
@@ -44,6 +44,19 @@ fn a_service_that_fits_on_a_larger_number_only() {
 }
 
 #[test]
+fn a_service_that_is_barred_where_it_fits() {
+    let mut fork = fork();
+    fork.cabinets[0].capacity = 1;
+    fork.cabinets[3].capacity = 1;
+    // Before 3 only the empty set: 2. Before 1 and before 2 also the service itself: 3 each.
+    assert_eq!(count(&fork, &Paths::new(&fork)), 8);
+    fork.barred = vec![Pair::from_words([0, 0])];
+    assert_eq!(count(&fork, &Paths::new(&fork)), 7);
+    fork.barred.push(Pair::from_words([0, 3]));
+    assert_eq!(count(&fork, &Paths::new(&fork)), 6);
+}
+
+#[test]
 fn streams_to_services_elsewhere_load_the_part() {
     let mut sheet = Sheet {
         services: vec![1, 1],
@@ -53,6 +66,7 @@ fn streams_to_services_elsewhere_load_the_part() {
             Cabinet::from_words([0, 0, 0, 0, 0, 0, 0]),
         ],
         streams: vec![Stream::from_words([0, 1, 5])],
+        barred: vec![],
     };
     // Before 1: the empty set, 4. Before 2: the empty set, 4; service 1 alone, whose stream comes
     // down, 2; both together, 1; but not service 0 alone, whose stream goes up.

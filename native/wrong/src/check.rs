@@ -9,16 +9,26 @@ impl Faulty {
     pub fn check_answer(&self, bytes: &[u8], plan: &[u16], answer: &mut [u64; 2]) -> u64 {
         let (refusal, cost) = match self.records(bytes) {
             Ok(sheet) => self.judge(&sheet, plan),
-            Err(refusal) => (refusal, 0),
+            Err(refusal) => (self.length_first(bytes, plan, refusal), 0),
         };
         let group = match refusal {
             14 if self.has(Fault::CheckGroup) => 2,
+            20 if self.has(Fault::CheckBarsGroup) => 1,
             _ => group(refusal),
         };
         if refusal == 0 || !self.has(Fault::CheckAnswerKept) {
             *answer = [group, cost];
         }
         refusal
+    }
+
+    /// The reader's refusal, unless 13 comes before it.
+    fn length_first(&self, bytes: &[u8], plan: &[u16], refusal: u64) -> u64 {
+        let length = plan.len() == usize::from(self.word(bytes, 0));
+        match refusal {
+            18 | 19 if !length && self.has(Fault::CheckLengthBefore18) => 13,
+            _ => refusal,
+        }
     }
 
     fn judge(&self, sheet: &Sheet, plan: &[u16]) -> (u64, u64) {
@@ -34,21 +44,34 @@ impl Faulty {
             let stands_for = |c: u16| if usize::from(c) == s { 0 } else { c };
             plan = plan.into_iter().map(stands_for).collect();
         }
+        let forbidden = self.forbidden(sheet, &plan);
         if plan.iter().any(|&c| usize::from(c) >= s) {
-            return (14, 0);
+            let bars_first = forbidden && self.has(Fault::CheckBarsBefore14);
+            return (if bars_first { 20 } else { 14 }, 0);
         }
         let (sums, largest) = self.loads(sheet, &plan);
         let overfull = (0..s).any(|c| self.overfull(sheet, &plan, c, &sums[c], &largest[c]));
         let jammed = (1..s).any(|c| self.jammed(sheet, c, &sums[c], &largest[c]));
         let cost = self.cost(sheet, &plan, &sums);
-        let refusal = match (overfull, jammed) {
-            (true, true) if self.has(Fault::CheckLinksFirst) => 16,
-            (true, _) => 15,
-            (_, true) => 16,
-            _ => 0,
-        };
+        let refusal = self.first(forbidden, overfull, jammed);
         let given = refusal == 0 || self.has(Fault::CheckCostRefused);
         (refusal, if given { cost } else { 0 })
+    }
+
+    /// The first of 20, 15 and 16 that applies, or 0.
+    fn first(&self, forbidden: bool, overfull: bool, jammed: bool) -> u64 {
+        let order = match self.0 {
+            Some(Fault::CheckLinksFirst) => [20, 16, 15],
+            Some(Fault::CheckBarsAfter15) => [15, 20, 16],
+            Some(Fault::CheckBarsAfter16) => [15, 16, 20],
+            _ => [20, 15, 16],
+        };
+        let applies = |number: &u64| match number {
+            20 => forbidden,
+            15 => overfull,
+            _ => jammed,
+        };
+        order.into_iter().find(applies).unwrap_or(0)
     }
 
     /// The cabinet holds too much.

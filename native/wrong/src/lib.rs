@@ -1,10 +1,12 @@
-//! Implementations that are wrong on purpose. Each has one fault; the comparison on the random
-//! cases must tell each from the right one, and must find nothing where there is no fault.
+//! Implementations that are wrong on purpose. Each has one fault; the comparison must tell each
+//! from the right one, and must find nothing where there is no fault.
 #![forbid(unsafe_code)]
 
+mod bars;
 mod check;
 mod fault;
 mod figures;
+mod fourth;
 mod loads;
 mod planner;
 mod reader;
@@ -15,22 +17,35 @@ pub use fault::Fault;
 pub use subject::Faulty;
 
 use differ::{Tally, compare};
+use second::barred;
 use second::random::{Random, Size, case};
 
-/// Compares up to so many cases; the number of the first that shows a difference, and its
-/// first line.
-pub fn first_difference(fault: Option<Fault>, cases: usize, seed: u64) -> Option<(usize, String)> {
-    let size = Size {
-        services: 4,
-        cabinets: 6,
-    };
+/// The sizes of the random roads.
+const SIZE: Size = Size {
+    services: 4,
+    cabinets: 6,
+};
+
+/// Compares up to so many random cases, then those written down for barred pairs. Gives the first
+/// case that shows a difference, and the first line of what it shows.
+pub fn first_difference(fault: Option<Fault>, cases: usize, seed: u64) -> Option<(String, String)> {
     let subject = Faulty(fault);
     let mut random = Random::new(seed);
     let mut tally = Tally::default();
-    (1..=cases).find_map(|number| {
-        let case = case(&mut random, size);
-        let difference = compare(&subject, &case, &mut random, &mut tally).err()?;
-        let line = difference.lines().next().unwrap_or_default().to_string();
-        Some((number, line))
-    })
+    for number in 1..=cases {
+        let case = case(&mut random, SIZE);
+        if let Err(what) = compare(&subject, &case, &mut random, &mut tally) {
+            return Some((number.to_string(), first_line(&what)));
+        }
+    }
+    for directed in barred::all() {
+        if let Err(what) = compare(&subject, &directed.case(), &mut random, &mut tally) {
+            return Some((directed.name.to_string(), first_line(&what)));
+        }
+    }
+    None
+}
+
+fn first_line(text: &str) -> String {
+    text.lines().next().unwrap_or_default().to_string()
 }

@@ -8,8 +8,8 @@ fn main() -> ExitCode {
     let mut unseen = 0;
     for &fault in Fault::ALL {
         match first_difference(Some(fault), 20_000, 1) {
-            Some((number, line)) => {
-                println!("{}\n    case {number}: {line}", fault.sentence());
+            Some((case, line)) => {
+                println!("{}\n    case {case}: {line}", fault.sentence());
             }
             None => {
                 println!("{}\n    NOT SEEN", fault.sentence());

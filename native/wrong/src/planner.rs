@@ -19,10 +19,12 @@ impl Faulty {
                 if self.has(Fault::PlanTouchedInReader) {
                     output.fill(0);
                 }
+                let lengths = [output.len(), costs.len(), choices.len()];
+                let refusal = self.lent_first(bytes, lengths, refusal);
                 return (refusal, [group(refusal), 0, 0]);
             }
         };
-        let short = self.short(&sheet, output.len(), costs.len(), choices.len());
+        let short = self.short(&sheet, [output.len(), costs.len(), choices.len()]);
         let road_first = self.has(Fault::PlanRoadFirst);
         if short == 11 && self.has(Fault::PlanTouchedIn11) {
             costs.fill(0);
@@ -61,8 +63,19 @@ impl Faulty {
         (12, [group, 0, count])
     }
 
-    /// The refusal of the lent lengths, or 0.
-    fn short(&self, sheet: &Sheet, output: usize, costs: usize, choices: usize) -> u64 {
+    /// The reader's refusal, unless that of what is lent comes before it.
+    fn lent_first(&self, bytes: &[u8], lengths: [usize; 3], refusal: u64) -> u64 {
+        if refusal < 18 || !self.has(Fault::PlanLentBefore18) {
+            return refusal;
+        }
+        match self.short(&self.gather(bytes), lengths) {
+            0 => refusal,
+            short => short,
+        }
+    }
+
+    /// The refusal of the lengths of output, cost table and choice table, or 0.
+    fn short(&self, sheet: &Sheet, [output, costs, choices]: [usize; 3]) -> u64 {
         let places = sheet.services.len() + usize::from(self.has(Fault::PlanExactOutput));
         let entries = sheet.cabinets.len() << sheet.services.len();
         let entries = entries + usize::from(self.has(Fault::PlanExactTable));

@@ -4,7 +4,7 @@ use crate::{Fault, Faulty};
 use second::{Cabinet, Sheet, Stream};
 
 /// A block: offset and size.
-type Block = (usize, usize);
+pub type Block = (usize, usize);
 
 impl Faulty {
     /// The word at a byte offset; 0 past the end, which only a fault can reach.
@@ -50,25 +50,31 @@ impl Faulty {
             return Err(5);
         }
         let sheet = self.gather(bytes);
-        match self.wrong_record(&sheet) {
+        let fourth = self.wrong_fourth(bytes, &blocks, &sheet);
+        match self.earlier(self.wrong_record(&sheet), fourth) {
             0 => Ok(sheet),
             refusal => Err(refusal),
+        }
+    }
+
+    /// The refusal of the records, or else that of the barred block.
+    fn earlier(&self, records: u64, fourth: u64) -> u64 {
+        match (records, fourth) {
+            (9, 18) if self.has(Fault::FourthBefore9) => 18,
+            (9, 19) if self.has(Fault::PairsBefore9) => 19,
+            (0, _) => fourth,
+            _ => records,
         }
     }
 
     fn outside_limits(&self, bytes: &[u8]) -> bool {
         let field = |i: usize| self.word(bytes, 2 * i);
         let more = |fault| u16::from(self.has(fault));
-        let last = match self.0 {
-            Some(Fault::ReadEighthWord) => 0,
-            Some(Fault::ReadEighthLowByte) => field(7) % 256,
-            _ => field(7),
-        };
         field(0) > 10 + more(Fault::ReadElevenServices)
             || field(1) < 1 - more(Fault::ReadNoCabinets)
             || field(1) > 200 + more(Fault::ReadCabinets201)
             || field(2) > 100 + more(Fault::ReadStreams101)
-            || last != 0
+            || field(7) != 0 && self.has(Fault::ReadEighthIs2)
     }
 
     fn wrong_length(&self, bytes: &[u8]) -> bool {
@@ -117,7 +123,7 @@ impl Faulty {
         }
     }
 
-    fn gather(&self, bytes: &[u8]) -> Sheet {
+    pub fn gather(&self, bytes: &[u8]) -> Sheet {
         let field = |i: usize| usize::from(self.word(bytes, 2 * i));
         let at = |block: usize, size: usize, number: usize, i: usize| {
             self.word(bytes, field(3 + block) + size * number + 2 * i)
@@ -128,10 +134,11 @@ impl Faulty {
             services: (0..field(0)).map(|i| at(0, 2, i, 0)).collect(),
             cabinets: (0..field(1)).map(cabinet).collect(),
             streams: (0..field(2)).map(stream).collect(),
+            barred: self.gather_pairs(bytes),
         }
     }
 
-    /// The lowest refusal over all records, or 0.
+    /// The lowest refusal over all records but the barred pairs, or 0.
     fn wrong_record(&self, sheet: &Sheet) -> u64 {
         let services = sheet.services.iter().map(|&d| self.amount(d));
         let cabinets = sheet.cabinets.iter().enumerate();

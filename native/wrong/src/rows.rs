@@ -27,9 +27,11 @@ impl Faulty {
     /// Fills rows that hold something already.
     pub fn fill(&self, sheet: &Sheet, rows: &mut Rows) {
         rows.count = 0;
+        let bars = self.bars(sheet);
         for p in (0..sheet.cabinets.len()).rev() {
             let mut below = children(sheet, p);
-            self.own(sheet, p, below.is_empty(), &mut rows.costs[p]);
+            let barred = self.barred_at(sheet, &bars, p);
+            self.own(sheet, p, below.is_empty(), barred, &mut rows.costs[p]);
             if self.has(Fault::PlanFallingChildren) {
                 below.reverse();
             }
@@ -55,6 +57,14 @@ impl Faulty {
                 };
                 rows.count = count_over(sheet, &Paths::new(sheet), smaller);
             }
+            Some(Fault::PlanBarsNotCounted) => {
+                let unbarred = Sheet {
+                    barred: vec![],
+                    ..sheet.clone()
+                };
+                let part = |c| part_before(sheet, c);
+                rows.count = count_over(&unbarred, &Paths::new(sheet), part);
+            }
             Some(Fault::PlanCountBound) => rows.count = (s as u64 - 1) * 3_u64.pow(r as u32),
             Some(Fault::PlanNoServices) if r == 0 => rows.count = 0,
             _ => {}
@@ -62,7 +72,7 @@ impl Faulty {
     }
 
     /// What the cabinet charges for each set that it holds alone.
-    fn own(&self, sheet: &Sheet, p: usize, leaf: bool, row: &mut [u64]) {
+    fn own(&self, sheet: &Sheet, p: usize, leaf: bool, barred: usize, row: &mut [u64]) {
         let cabinet = &sheet.cabinets[p];
         let capacity = u64::from(cabinet.capacity);
         for (set, figure) in row.iter_mut().enumerate() {
@@ -74,7 +84,7 @@ impl Faulty {
                 Some(Fault::PlanNoneOnInnerZero) if capacity == 0 && !leaf => set == 0,
                 _ => demand <= capacity,
             };
-            if fits {
+            if fits && !self.forbids(p, set, barred) {
                 *figure = demand * u64::from(cabinet.price);
             } else if !self.has(Fault::PlanOldCosts) {
                 *figure = NONE;

@@ -1,8 +1,9 @@
 //! The faulty implementation as the comparison calls it.
 
 use crate::Fault;
+use crate::fourth::once;
 use differ::Subject;
-use second::{Cabinet, group};
+use second::{Cabinet, Pair, Sheet, group};
 
 /// An implementation with this fault, or with none.
 pub struct Faulty(pub Option<Fault>);
@@ -21,30 +22,46 @@ impl Faulty {
         }
         u64::from(found.is_some())
     }
+
+    /// What the reader tells of an accepted sheet.
+    fn counts(&self, sheet: &Sheet) -> [u64; 5] {
+        let pairs = match self.has(Fault::PairsOnce) {
+            true => once(&sheet.barred).len(),
+            false => sheet.barred.len(),
+        };
+        let [r, s, q] = [
+            sheet.services.len(),
+            sheet.cabinets.len(),
+            sheet.streams.len(),
+        ];
+        [0, r as u64, s as u64, q as u64, pairs as u64]
+    }
+
+    /// What it tells of a refused one.
+    fn counts_refused(&self, bytes: &[u8], refusal: u64) -> [u64; 5] {
+        let word = |at| u64::from(self.word(bytes, at));
+        match (refusal, self.0) {
+            (3.., Some(Fault::ReadCountsGiven)) => [group(refusal), word(0), word(2), word(4), 0],
+            (19, Some(Fault::ReadPairsGiven)) => [1, 0, 0, 0, word(self.fourth(bytes))],
+            (18 | 19, Some(Fault::FourthGroup)) => [2, 0, 0, 0, 0],
+            _ => [group(refusal), 0, 0, 0, 0],
+        }
+    }
 }
 
 impl Subject for Faulty {
-    fn read(&self, sheet: &[u8], counts: &mut [u64; 4]) -> u64 {
-        match self.records(sheet) {
-            Ok(records) => {
-                let [r, s, q] = [
-                    records.services.len(),
-                    records.cabinets.len(),
-                    records.streams.len(),
-                ];
-                *counts = [0, r as u64, s as u64, q as u64];
-                0
-            }
-            Err(refusal) => {
-                if self.has(Fault::ReadCountsGiven) && refusal > 2 {
-                    let word = |at| u64::from(self.word(sheet, at));
-                    *counts = [group(refusal), word(0), word(2), word(4)];
-                } else if !self.has(Fault::ReadCountsKept) {
-                    *counts = [group(refusal), 0, 0, 0];
-                }
-                refusal
-            }
-        }
+    fn read(&self, sheet: &[u8], counts: &mut [u64; 5]) -> u64 {
+        let (refusal, values) = match self.records(sheet) {
+            Ok(records) => (0, self.counts(&records)),
+            Err(refusal) => (refusal, self.counts_refused(sheet, refusal)),
+        };
+        let written = match self.0 {
+            Some(Fault::ReadCountsKept) if refusal != 0 => 0,
+            Some(Fault::ReadPairsKept) if values[4] == 0 => 4,
+            _ => 5,
+        };
+        counts[..written].copy_from_slice(&values[..written]);
+        refusal
     }
 
     fn service(&self, sheet: &[u8], number: usize, record: &mut [u64; 1]) -> u64 {
@@ -69,6 +86,23 @@ impl Subject for Faulty {
         let found = self.record(sheet, number, |s| {
             s.streams.iter().map(|t| t.words()).collect()
         });
+        self.give(found, record)
+    }
+
+    fn barred(&self, sheet: &[u8], number: usize, record: &mut [u64; 2]) -> u64 {
+        let found = self.record(sheet, number, |s| {
+            let mut pairs: Vec<[u16; 2]> = s.barred.iter().map(Pair::words).collect();
+            match self.0 {
+                Some(Fault::RecordPairsSorted) => pairs.sort(),
+                Some(Fault::RecordPairSwapped) => pairs.iter_mut().for_each(|p| p.reverse()),
+                Some(Fault::RecordPairPastLast) => pairs.push([0, 0]),
+                _ => {}
+            }
+            pairs
+        });
+        if found.is_none() && self.has(Fault::RecordPairCleared) {
+            *record = [0, 0];
+        }
         self.give(found, record)
     }
 

@@ -34,6 +34,8 @@ impl Size {
 pub enum Origin {
     Road(Kind),
     Damaged(Damage),
+    /// Written down with its answers, under this name.
+    Directed(&'static str),
 }
 
 /// The lengths of the output, the cost table and the choice table.
@@ -70,6 +72,7 @@ pub fn with_calls(random: &mut Random, origin: Origin, sheet: Vec<u8>) -> Case {
     let mut plans: Vec<Vec<u16>> = (0..6).map(|_| some_plan(random, &known)).collect();
     if let Some(records) = &records {
         plans.extend(neighbours(random, records));
+        plans.extend(forbidden(random, records));
     }
     let fitting = Lent {
         output: known.services.len(),
@@ -115,6 +118,19 @@ fn neighbours(random: &mut Random, sheet: &Sheet) -> Vec<Vec<u16>> {
         moved[i] = random.below(sheet.cabinets.len()) as u16;
     }
     vec![best, moved]
+}
+
+/// A random plan with one service on a cabinet that it is barred from, if there is such a pair.
+fn forbidden(random: &mut Random, sheet: &Sheet) -> Option<Vec<u16>> {
+    let last = sheet.barred.len().checked_sub(1)?;
+    let any = random.between(0, last);
+    let pair = sheet.barred[random.pick(&[any, last])];
+    let s = sheet.cabinets.len();
+    let mut plan: Vec<u16> = (0..sheet.services.len())
+        .map(|_| random.below(s) as u16)
+        .collect();
+    plan[usize::from(pair.service)] = pair.cabinet;
+    Some(plan)
 }
 
 /// Lengths that suffice, exactly or with places to spare.

@@ -2,6 +2,7 @@
 
 use super::Random;
 use super::layout::layout;
+use super::misplaced::{harm_pair, misplace, too_many};
 use crate::build::{Layout, build, put, sizes};
 use crate::limits::{HEADER, NO_PARENT};
 use crate::sheet::{Cabinet, Sheet};
@@ -23,10 +24,13 @@ pub enum Damage {
     Noise,
 }
 
+/// The reader's refusals, each as often as it stands here.
+const REFUSALS: [u64; 15] = [1, 2, 3, 4, 5, 6, 7, 8, 9, 18, 18, 18, 18, 19, 19];
+
 /// A damaged form of the sheet.
 pub fn damage(random: &mut Random, sheet: &Sheet) -> (Damage, Vec<u8>) {
     let damage = match random.below(32) {
-        0..=19 => Damage::For(random.between(1, 9) as u64),
+        0..=19 => Damage::For(random.pick(&REFUSALS)),
         20..=23 => Damage::Several,
         24..=26 => Damage::Truncated,
         27..=29 => Damage::Flipped,
@@ -41,12 +45,12 @@ fn damaged(random: &mut Random, sheet: &Sheet, damage: Damage) -> Vec<u8> {
     let numbers = match damage {
         Damage::For(number) => vec![number],
         Damage::Several => {
-            // Every other time only refusals of records, so that they meet each other.
-            let lowest = random.pick(&[2, 6]);
-            let order = random.order(10 - lowest);
+            // Often only refusals of records, or the last ones, so that they meet each other.
+            let lowest = random.pick(&[2, 6, 9]);
+            let numbers: Vec<u64> = (lowest..=9).chain([18, 19]).collect();
+            let order = random.order(numbers.len()).into_iter();
             let some = random.between(2, 4);
-            let numbers = order.iter().take(some).map(|&n| (n + lowest) as u64);
-            numbers.collect()
+            order.take(some).map(|k| numbers[k]).collect()
         }
         Damage::Noise => return noise(random),
         _ => vec![],
@@ -82,7 +86,7 @@ fn too_large(random: &mut Random) -> u16 {
     random.pick(&[10_001, 10_001, 65_535, any])
 }
 
-/// Changes records for refusals 6 to 9.
+/// Changes records for refusals 6 to 9, 19, and sometimes 18.
 fn harm_records(random: &mut Random, sheet: &mut Sheet, number: u64) {
     let c = random.below(sheet.cabinets.len());
     match number {
@@ -102,6 +106,8 @@ fn harm_records(random: &mut Random, sheet: &mut Sheet, number: u64) {
             words[field] = random.pick(&[1, 10_000, 256]);
             sheet.cabinets[0] = Cabinet::from_words(words);
         }
+        18 if random.once_in(8) => too_many(random, sheet),
+        19 => harm_pair(random, sheet),
         _ => {}
     }
 }
@@ -138,7 +144,7 @@ fn harm_end(random: &mut Random, sheet: &mut Sheet) {
     }
 }
 
-/// Moves blocks for refusals 4 and 5.
+/// Moves blocks for refusals 4, 5 and 18.
 fn harm_layout(random: &mut Random, sheet: &Sheet, layout: &mut Layout, number: u64) {
     let sizes = sizes(sheet);
     match number {
@@ -159,6 +165,7 @@ fn harm_layout(random: &mut Random, sheet: &Sheet, layout: &mut Layout, number: 
                 layout.length = layout.length.max(layout.offsets[a] + sizes[a]);
             }
         }
+        18 => misplace(random, sheet, layout),
         _ => {}
     }
 }
@@ -169,16 +176,7 @@ fn harm_bytes(random: &mut Random, bytes: &mut Vec<u8>, number: u64) {
     match number {
         1 => bytes.truncate(random.pick(&[0, 1, 14, 15, 15])),
         2 => {
-            let any = random.between(1, 65_535) as u16;
-            let (at, value) = random.pick(&[
-                (0, 11),
-                (2, 0),
-                (2, 201),
-                (4, 101),
-                (14, 1),
-                (14, 256),
-                (14, any),
-            ]);
+            let (at, value) = random.pick(&[(0, 11), (2, 0), (2, 201), (4, 101)]);
             put(bytes, at, [value]);
         }
         3 => match random.below(4) {
@@ -191,9 +189,11 @@ fn harm_bytes(random: &mut Random, bytes: &mut Vec<u8>, number: u64) {
     }
 }
 
-/// Cuts the sheet anywhere; every other time the length word says so.
+/// Cuts the sheet anywhere, sometimes right behind the header; every other time the length word
+/// says so.
 fn truncate(random: &mut Random, bytes: &mut Vec<u8>) {
-    let length = random.below(bytes.len());
+    let any = random.below(bytes.len());
+    let length = random.pick(&[any, any, any, HEADER]);
     bytes.truncate(length);
     if random.once_in(2) {
         put(bytes, 12, [length as u16]);

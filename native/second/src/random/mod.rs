@@ -1,9 +1,11 @@
 //! Random roads, damaged sheets and cases, the same for the same seed.
 
 pub mod amounts;
+pub mod bars;
 pub mod case;
 pub mod damage;
 pub mod layout;
+pub mod misplaced;
 pub mod road;
 pub mod source;
 

@@ -2,6 +2,7 @@
 
 use super::Random;
 use super::amounts::{Scale, ample, capacities, just_enough, one_less, prices};
+use super::bars::bars;
 use super::case::Size;
 use crate::limits::{NO_PARENT, SERVICES, STREAMS};
 use crate::sheet::{Cabinet, Sheet, Stream};
@@ -70,8 +71,14 @@ pub fn road(random: &mut Random, size: Size) -> (Kind, Sheet) {
     (kind, of_kind(random, kind, size))
 }
 
-/// A road of this kind.
+/// A road of this kind, every other time with barred pairs.
 pub fn of_kind(random: &mut Random, kind: Kind, size: Size) -> Sheet {
+    let mut sheet = unbarred(random, kind, size);
+    sheet.barred = bars(random, &sheet);
+    sheet
+}
+
+fn unbarred(random: &mut Random, kind: Kind, size: Size) -> Sheet {
     match kind {
         Kind::Small => plain(random, size, Scale::Small),
         Kind::Ties => plain(random, size, Scale::Ties),
@@ -128,6 +135,7 @@ fn plain(random: &mut Random, size: Size, scale: Scale) -> Sheet {
         services: (0..r).map(|_| scale.amount(random)).collect(),
         cabinets: shape(random, s),
         streams: some_streams(random, r, q, scale),
+        barred: vec![],
     };
     prices(random, scale, &mut sheet.cabinets);
     if random.once_in(4) {
@@ -198,6 +206,7 @@ fn crowd(random: &mut Random) -> Sheet {
         services: (0..r).map(|_| Scale::Big.amount(random)).collect(),
         cabinets: shape(random, s),
         streams: some_streams(random, r, 2, Scale::Small),
+        barred: vec![],
     };
     if random.once_in(2) {
         for demand in sheet.services.iter_mut().skip(2) {
@@ -216,6 +225,7 @@ fn long(random: &mut Random) -> Sheet {
         services: vec![10_000, 10_000],
         cabinets: vec![Cabinet::default(); s],
         streams: vec![Stream::from_words([0, 1, 10_000])],
+        barred: vec![],
     };
     ample(&mut sheet.cabinets);
     for (c, cabinet) in sheet.cabinets.iter_mut().enumerate() {
@@ -241,6 +251,7 @@ fn large(random: &mut Random) -> Sheet {
         services: (0..r).map(|_| scale.amount(random)).collect(),
         cabinets: shape(random, s),
         streams: some_streams(random, r, q, scale),
+        barred: vec![],
     };
     prices(random, scale, &mut sheet.cabinets);
     match random.below(3) {
