@@ -251,7 +251,7 @@ size_t draw_sheet(struct random *random, uint8_t *bytes)
     return length;
 }
 
-/* The two examples differ in the capacity of the root. */
+/* M or M0, which differ in the capacity of the root. */
 size_t example_sheet(struct random *random, uint8_t *bytes)
 {
     static const uint16_t words[34] = {

@@ -5,7 +5,7 @@ use mathlib.Core.Path.{_≡_, refl, sym, ap, _∙_}
 use mathlib.Core.Bool.{Bool, true, false, _||_}
 use mathlib.Core.List.{List}
 use lib.Dec.{eqb, ltb}
-use lib.ListN.{length, getD, set, replicate, length-set, length-replicate, getD-replicate, List·getD-eq-default}
+use lib.ListN.{length, getD, set, replicate, length-set, length-replicate}
 use lib.Seq.{getD-set-same, getD-set-other}
 use borrow.Author.Tests.{eqb-true, eqb-false, ne-eqb, ltb-true, ltb-false, lt-ltb}
 use Rattle.finite.specs.Below.{only}
@@ -14,16 +14,9 @@ use Rattle.subsets.specs.Tree.{climb, under}
 use Rattle.subsets.proofs.Tree.{under-refl, under-small, under-step}
 use Rattle.sheet.specs.Limits.{max-cabinets}
 use Rattle.sheet.specs.Instance.{Instance, WellFormed}
+use Rattle.records.proofs.Columns.{all-alike}
 use Rattle.checker.specs.Loads.{lower-parent, is-under}
 use Rattle.checker.specs.Inner.Records.{Marked}
-
--- nothing is marked at first
-none : (n d : ℕ) → getD (replicate n false) d false ≡ false
-none n d = go (ltb d n) refl
-  where
-    go : (t : Bool) → ltb d n ≡ t → getD (replicate n false) d false ≡ false
-    go true e = getD-replicate n d false false (ltb-true d n e)
-    go false e = List·getD-eq-default (replicate n false) false (omega (arith, ltb-false d n e, length-replicate n false))
 
 -- two trees whose parents are the same below the root
 climb-ext : (p q : ℕ → ℕ) → ((d : ℕ) → 0 < d → p d ≡ q d) → (k c d : ℕ) → climb p k c d ≡ climb q k c d
@@ -79,7 +72,7 @@ module _ (I : Instance) where
       after = omega arith;
       size = length-set (replicate max-cabinets false) c true ∙ length-replicate max-cabinets false;
       first = λ d l. go d l (eqb d c) refl;
-      rest = λ d l. getD-set-other (replicate max-cabinets false) c d true false (λ e. omega arith) ∙ none max-cabinets d;
+      rest = λ d l. getD-set-other (replicate max-cabinets false) c d true false (λ e. omega arith) ∙ all-alike max-cabinets d false;
     }
       where
         go : (d : ℕ) → d < c + 1 → (t : Bool) → eqb d c ≡ t → getD (set (replicate max-cabinets false) c true) d false ≡ is-under I c d
@@ -89,7 +82,7 @@ module _ (I : Instance) where
             ∙ sym (under-refl (lower-parent I) c) ∙ ap (is-under I c) (sym (eqb-true d c e))
         go d l false e =
             let q : (d ≡ c → ⊥) = eqb-false d c e in
-            getD-set-other (replicate max-cabinets false) c d true false q ∙ none max-cabinets d
+            getD-set-other (replicate max-cabinets false) c d true false q ∙ all-alike max-cabinets d false
             ∙ sym (under-small (lower-parent I) lower-falls c d (omega arith))
 
     -- the next cabinet takes the mark of its parent

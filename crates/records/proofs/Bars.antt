@@ -7,9 +7,9 @@ use mathlib.Core.Bool.{Bool, true, false, _&&_, _||_, and-true, and-false, or-fa
 use mathlib.Core.List.{List}
 use lib.Bits.{bitOr}
 use lib.Dec.{eqb, ltb}
-use lib.ListN.{getD, set, replicate, length-set, length-replicate, getD-replicate, List·getD-eq-default}
+use lib.ListN.{getD, set, replicate, length-set, length-replicate}
 use lib.Seq.{getD-set-same, getD-set-other}
-use borrow.Author.Tests.{eqb-true, eqb-false, lt-ltb, ltb-true, ltb-false}
+use borrow.Author.Tests.{eqb-true, eqb-false, lt-ltb, ltb-true}
 use Rattle.finite.specs.Below.{only, any-below}
 use Rattle.finite.proofs.Booleans.{both-l, both-r}
 use Rattle.subsets.specs.Sets.{has}
@@ -23,20 +23,13 @@ use Rattle.sheet.specs.declared.Pair.{Pair}
 use Rattle.sheet.specs.declared.PairRecord.{PairRecord}
 use Rattle.sheet.specs.declared.PairRecord.the-variants.{Given}
 use Rattle.sheet.specs.declared.Reading.the-variants.{Accepted}
-use Rattle.sheet.proofs.Promises.{well-formed, barred-pairs}
+use Rattle.sheet.proofs.Promises.{well-formed, barred-pairs, only-there}
 use Rattle.records.specs.declared.Records.{Records}
 use Rattle.records.specs.Inner.Loading.{Barring}
 use Rattle.records.specs.Told.{told}
+use Rattle.records.proofs.Columns.{all-alike}
 
 -- ---- while the pairs are read
-
--- nothing but zeros
-blank : (n c : ℕ) → _≡_ {A = ℕ} (getD (replicate n 0) c 0) 0
-blank n c = go (ltb c n) refl
-  where
-    go : (t : Bool) → ltb c n ≡ t → _≡_ {A = ℕ} (getD (replicate n 0) c 0) 0
-    go true e = getD-replicate n c 0 0 (ltb-true c n e)
-    go false e = List·getD-eq-default {A = ℕ} (replicate n 0) 0 (omega (arith, length-replicate {A = ℕ} n 0, ltb-false c n e))
 
 module _ (h : Sheet) (bytes : List ℕ) where
   -- no pair was read yet
@@ -44,7 +37,7 @@ module _ (h : Sheet) (bytes : List ℕ) where
   unfolding any-below
   none-barred = record {
     size = length-replicate {A = ℕ} max-cabinets 0;
-    members = λ i c. ap (λ (x : ℕ). has x i) (blank max-cabinets c) ∙ has-zero i;
+    members = λ i c. ap (λ (x : ℕ). has x i) (all-alike {A = ℕ} max-cabinets c 0) ∙ has-zero i;
   }
 
   -- one pair more: its service joins the set of its cabinet
@@ -77,11 +70,6 @@ module _ (h : Sheet) (bytes : List ℕ) where
 
 -- ---- once all were read
 
--- a service and a cabinet that are barred are there
-within : (i c r s : ℕ) (b : Bool) → (b ≡ true → (i < r) × (c < s)) → (ltb i r && ltb c s) && b ≡ b
-within i c r s true f = let w = f refl in rw (lt-ltb i r (w .0), lt-ltb c s (w .1)) refl
-within i c r s false f = and-false (ltb i r && ltb c s)
-
 -- the sets tell of what the sheet bars
 pub all-barred : (bytes : List ℕ) (h : Sheet) → reading bytes ≡ Accepted h → (x : Records) → x .services ≡ instance bytes .r → x .cabinets ≡ instance bytes .s
     → Barring h bytes (h .pairs) (x .barred) → (i c : ℕ) → told x .barred i c ≡ instance bytes .barred i c
@@ -90,7 +78,7 @@ all-barred bytes h a x r s B i c =
     let I = instance bytes in
     ap₂ (λ (m n : ℕ). (ltb i m && ltb c n) && has (getD (x .barred) c 0) i) r s
     ∙ ap (λ (b : Bool). (ltb i (I .r) && ltb c (I .s)) && b) (B .members i c ∙ sym (barred-pairs bytes h a i c))
-    ∙ within i c (I .r) (I .s) (I .barred i c) (well-formed bytes h a .bars i c)
+    ∙ only-there i c (I .r) (I .s) (I .barred i c) (well-formed bytes h a .bars i c)
 
 -- ---- what records bar
 

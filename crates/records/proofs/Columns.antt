@@ -5,7 +5,7 @@ use mathlib.Core.Path.{_≡_, refl, sym, _∙_, fun-ext}
 use mathlib.Core.Bool.{Bool, true, false}
 use mathlib.Core.List.{List}
 use lib.Dec.{ltb}
-use lib.ListN.{getD, set, replicate, length-set, length-replicate}
+use lib.ListN.{getD, set, replicate, length-set, length-replicate, getD-replicate, List·getD-eq-default}
 use lib.Seq.{getD-set-same, getD-set-other}
 use borrow.Author.Count.{below-more}
 use borrow.Author.Tests.{ltb-true, ltb-false, le-ltb}
@@ -16,6 +16,14 @@ use Rattle.sheet.specs.Instance.{Instance, instance}
 use Rattle.records.specs.declared.Records.{Records}
 use Rattle.records.specs.Inner.Loading.{Column, Loading, barring}
 use Rattle.records.specs.Told.{told, blank}
+
+-- an array of one value has it at every number, if that is the value past its end too
+pub all-alike : {A : Type 0} (n i : ℕ) (a : A) → getD (replicate n a) i a ≡ a
+all-alike n i a = go (ltb i n) refl
+  where
+    go : (t : Bool) → ltb i n ≡ t → getD (replicate n a) i a ≡ a
+    go true e = getD-replicate n i a a (ltb-true i n e)
+    go false e = List·getD-eq-default (replicate n a) a (omega (arith, length-replicate n a, ltb-false i n e))
 
 module _ (places : ℕ) (f : ℕ → ℕ) where
   -- an empty array

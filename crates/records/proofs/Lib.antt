@@ -1,3 +1,3 @@
 -- What callers may rely on, and what the proofs of the code share.
-mod Columns
+pub mod Columns
 pub mod Bars

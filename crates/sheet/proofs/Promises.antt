@@ -185,6 +185,11 @@ unfolding names
 named-by p i c e =
     (eqb-true _ _ (both-l (eqb (p .service) i) (eqb (p .cabinet) c) e), eqb-true _ _ (both-r (eqb (p .service) i) (eqb (p .cabinet) c) e))
 
+-- a test that holds only where i is below r and c below s
+pub only-there : (i c r s : ℕ) (b : Bool) → (b ≡ true → (i < r) × (c < s)) → (ltb i r && ltb c s) && b ≡ b
+only-there i c r s true f = let w = f refl in rw (lt-ltb i r (w .0), lt-ltb c s (w .1)) refl
+only-there i c r s false f = and-false (ltb i r && ltb c s)
+
 -- ---- a field of every number, 0 where there is no record
 
 field-le : (n m : ℕ) (f : ℕ → ℕ) → ((d : ℕ) → d < n → f d ≤ m) → (d : ℕ) → only (ltb d n) (f d) ≤ m
@@ -292,11 +297,7 @@ module _ (bytes : List ℕ) (h : Sheet) (a : reading bytes ≡ Accepted h) where
 
   -- so that a service and a cabinet are barred exactly where some pair names them
   bar-is : (i c : ℕ) → (ltb i (header bytes .services) && ltb c (header bytes .cabinets)) && named-below i c ≡ named-below i c
-  bar-is i c = go (named-below i c) refl
-    where
-      go : (t : Bool) → named-below i c ≡ t → (ltb i (header bytes .services) && ltb c (header bytes .cabinets)) && named-below i c ≡ named-below i c
-      go true e = let b = bar-named i c e in rw (lt-ltb i (header bytes .services) (b .0), lt-ltb c (header bytes .cabinets) (b .1)) refl
-      go false e = rw e (and-false (ltb i (header bytes .services) && ltb c (header bytes .cabinets)))
+  bar-is i c = only-there i c (header bytes .services) (header bytes .cabinets) (named-below i c) (bar-named i c)
 
   abbrev cab : ℕ → Cabinet
   cab c = cabinet (header bytes) bytes c

@@ -56,7 +56,7 @@ impl Display for Refusal {
             14 => "the plan names a cabinet that isn't there",
             15 => "a cabinet is overfull",
             16 => "a link direction is overfull",
-            18 => "the barred block is outside the sheet, too long, or shares a byte",
+            18 => "the block of barred pairs is not within the sheet, has too many pairs, or shares a byte",
             19 => "a barred pair names no service or no cabinet",
             20 => "a service is on a cabinet that it is barred from",
             _ => "an unknown refusal",
