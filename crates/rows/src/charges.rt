@@ -6,7 +6,6 @@ ghost use Rattle.rows.specs.Charges.{max-sets, all-sums, own-figure, lin
 use crate::Link;
 use crate::Own;
 use crate::SETS;
-use crate::index;
 use subsets::NONE;
 
 fn wide(x: u32) -> u64
@@ -21,6 +20,20 @@ fn word(x: u16) -> u64
     x as u64
 }
 
+// A set of services in 32 bits, as wide as the sums beside it.
+fn narrow(x: usize) -> u32
+    requires { ⌜ x < max-sets ⌝ }
+    ensures { λ r. ⌜ r ≡ x ⌝ }
+{
+    x as u32
+}
+
+fn half(x: u16) -> u32
+    ensures { λ r. ⌜ r ≡ x ⌝ }
+{
+    x as u32
+}
+
 // So much demand at a price: 32 bits times 16 bits.
 fn priced(sum: u32, price: u16) -> u64
     ensures { λ r. ⌜ (r ≡ sum * price) × (r < 281474976710656) ⌝ }
@@ -31,13 +44,13 @@ fn priced(sum: u32, price: u16) -> u64
 }
 
 // What a cabinet charges for the services of x, of so much demand.
-fn own_charge(x: usize, demand: u32, k: Own) -> u64
+fn own_charge(x: u32, demand: u32, k: Own) -> u64
     ensures { λ n. ⌜ n ≡ own-figure k x demand ⌝ }
 {
     if word(k.capacity) < wide(demand) {
         return NONE;
     }
-    if x & index(k.barred) != 0 {
+    if x & half(k.barred) != 0 {
         return NONE;
     }
     priced(demand, k.price)
@@ -63,7 +76,7 @@ pub(crate) fn fill_own(row: &mut [u64], sums: &[u32], k: Own)
 {
     let mut x = 0;
     while x < row.len() {
-        row[x] = own_charge(x, sums[x], k);
+        row[x] = own_charge(narrow(x), sums[x], k);
         x += 1;
     }
 }

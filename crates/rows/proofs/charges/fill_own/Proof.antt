@@ -1,7 +1,7 @@
 -- `fill_own` meets its contract.
 use Prim.Native.Nat.{ℕ, _-_, _≤_, _<_}
 use native.Mathlib.Omega.{arith}
-use mathlib.Core.Path.{_≡_}
+use mathlib.Core.Path.{_≡_, ap, _∙_}
 use borrow.Author.Needs.{needs}
 use lib.ListN.{length, getD, length-set}
 use Rattle.rows.specs.Charges.{own-figure, demanded}
@@ -17,13 +17,19 @@ abbrev μ-loop : tie.MeasureT-loop
 
 -- the nodes of the function that its needs reach back to
 abbrev at-loop-before-own-charge : tie.After-own-charge Inv-loop μ-loop → tie.At-loop Inv-loop μ-loop
-at-loop-before-own-charge c = c .before .before .before
+at-loop-before-own-charge c = c .before .before .before .before
+
+abbrev narrow-before-own-charge : tie.After-own-charge Inv-loop μ-loop → tie.After-narrow Inv-loop μ-loop
+narrow-before-own-charge c = c .before .before
 
 abbrev start-before-own-charge : tie.After-own-charge Inv-loop μ-loop → tie.Start Inv-loop μ-loop
-start-before-own-charge c = c .before .before .before .before .before .before
+start-before-own-charge c = c .before .before .before .before .before .before .before
 
 loop-holds : tie.Need-loop-holds Inv-loop μ-loop
 loop-holds c = (search needs, search needs, λ d l. absurd (omega arith))
+
+narrow-requires : tie.Need-narrow-requires Inv-loop μ-loop
+narrow-requires c κs = search needs
 
 mul-own-charge : tie.Need-mul-own-charge Inv-loop μ-loop
 mul-own-charge c = search needs
@@ -50,7 +56,7 @@ loop-again : tie.Need-loop-again Inv-loop μ-loop
 loop-again c =
     let a = start-before-own-charge c .args in
     let l = at-loop-before-own-charge c .loop in
-    (omega arith, simp length-set (l .inv .1), next-written (l .row) (l .x) (c .own-charge .result) (λ d. own-figure (a .k) d (demanded (a .sums .now) d)) (omega arith) (c .own-charge .ensures) (l .inv .2))
+    (omega arith, simp length-set (l .inv .1), next-written (l .row) (l .x) (c .own-charge .result) (λ d. own-figure (a .k) d (demanded (a .sums .now) d)) (omega arith) (c .own-charge .ensures ∙ ap (λ (d : ℕ). own-figure (a .k) d (demanded (a .sums .now) (l .x))) (narrow-before-own-charge c .narrow .ensures)) (l .inv .2))
 
 same-length : tie.Need-same-length Inv-loop μ-loop
 same-length c = search needs
@@ -65,6 +71,7 @@ fill-own-spec =
     Inv-loop
     μ-loop
     loop-holds
+    narrow-requires
     mul-own-charge
     shared-slice-read-own-charge
     own-charge-requires
