@@ -28,7 +28,8 @@ fn narrow(x: usize) -> u32
     x as u32
 }
 
-fn half(x: u16) -> u32
+// A set that stands in 16 bits, in 32 too.
+fn widened(x: u16) -> u32
     ensures { λ r. ⌜ r ≡ x ⌝ }
 {
     x as u32
@@ -50,7 +51,7 @@ fn own_charge(x: u32, demand: u32, k: Own) -> u64
     if word(k.capacity) < wide(demand) {
         return NONE;
     }
-    if x & half(k.barred) != 0 {
+    if x & widened(k.barred) != 0 {
         return NONE;
     }
     priced(demand, k.price)

@@ -18,8 +18,8 @@ start-before-priced c = c .before .before .before .before .before .before
 abbrev else1-before-priced : tie.After-priced → tie.Else1
 else1-before-priced c = c .before .before .before
 
-abbrev half-before-priced : tie.After-priced → tie.After-half
-half-before-priced c = c .before .before
+abbrev widened-before-priced : tie.After-priced → tie.After-widened
+widened-before-priced c = c .before .before
 
 abbrev start-before-then1 : tie.Then1 → tie.Start
 start-before-then1 c = c .before .before .before
@@ -27,8 +27,8 @@ start-before-then1 c = c .before .before .before
 abbrev start-before-then2 : tie.Then2 → tie.Start
 start-before-then2 c = c .before .before .before .before .before
 
-abbrev half-before-then2 : tie.Then2 → tie.After-half
-half-before-then2 c = c .before
+abbrev widened-before-then2 : tie.Then2 → tie.After-widened
+widened-before-then2 c = c .before
 
 word-requires : tie.Need-word-requires
 word-requires c κs = search needs
@@ -42,14 +42,14 @@ returns c =
     let h : start-before-then1 c .args .k .capacity < start-before-then1 c .args .demand = omega (arith, c .if1 .taken) in
     simp (lt-leb _ _ h)
 
-half-requires : tie.Need-half-requires
-half-requires c κs = search needs
+widened-requires : tie.Need-widened-requires
+widened-requires c κs = search needs
 
 returns-2 : tie.Need-returns-2
 unfolding figure provided
 returns-2 c =
     let a = start-before-then2 c .args in
-    let h : (bitAnd (a .x) (a .k .barred) ≡ 0 → ⊥) = λ e. c .if2 .taken (ap (bitAnd (a .x)) (half-before-then2 c .half .ensures) ∙ e) in
+    let h : (bitAnd (a .x) (a .k .barred) ≡ 0 → ⊥) = λ e. c .if2 .taken (ap (bitAnd (a .x)) (widened-before-then2 c .widened .ensures) ∙ e) in
     simp (ne-eqb _ 0 h, and-false)
 
 priced-requires : tie.Need-priced-requires
@@ -60,9 +60,9 @@ unfolding figure provided
 returns-3 c =
     let a = start-before-priced c .args in
     let h : a .demand ≤ a .k .capacity = omega (arith, else1-before-priced c .if1 .left) in
-    let apart : bitAnd (a .x) (a .k .barred) ≡ 0 = sym (ap (bitAnd (a .x)) (half-before-priced c .half .ensures)) ∙ c .before .if2 .left in
+    let apart : bitAnd (a .x) (a .k .barred) ≡ 0 = sym (ap (bitAnd (a .x)) (widened-before-priced c .widened .ensures)) ∙ c .before .if2 .left in
     simp (le-leb _ _ h, eq-eqb _ 0 apart) (c .priced .ensures .0)
 
 pub own-charge-spec : {M : Type 1} → statement M
 own-charge-spec =
-    tie.close (tie.spec word-requires wide-requires returns half-requires returns-2 priced-requires returns-3)
+    tie.close (tie.spec word-requires wide-requires returns widened-requires returns-2 priced-requires returns-3)
