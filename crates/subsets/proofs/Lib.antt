@@ -9,6 +9,7 @@ pub mod Folds
 pub mod Join
 pub mod Loop
 pub mod Parts
+pub mod Powers
 pub mod Provided
 pub mod Rows
 pub mod Sets

@@ -58,22 +58,29 @@ pub fn weigh(best: u64, placed: u64, rest: u64, link: u64) -> Weighed
     }
 }
 
-const POWERS: [u64; 11] = [1, 3, 9, 27, 81, 243, 729, 2187, 6561, 19683, 59049];
+// The largest number whose triple fits 64 bits.
+const LARGEST_TRIPLED: u64 = u64::MAX / 3;
 
-// A power of three, where the table has it.
+// A power of three, where it fits 64 bits.
 pub enum Power {
     Value(u64),
     Outside,
 }
 
+// 3^r by repeated multiplication. It is left as soon as a power would not fit.
 pub fn power_of_three(r: usize) -> Power
     ensures { λ p. ⌜ p ≡ power-of-three r ⌝ }
 {
-    if r <= 10 {
-        Power::Value(POWERS[r])
-    } else {
-        Power::Outside
+    let mut power = 1;
+    let mut i = 0;
+    while i < r {
+        if LARGEST_TRIPLED < power {
+            return Power::Outside;
+        }
+        power = 3 * power;
+        i = i + 1;
     }
+    Power::Value(power)
 }
 
 // The largest subset of x below a, where a is a subset of x and not empty.

@@ -1,4 +1,5 @@
-// Prints the weighing call on every combination of seven figures, and the powers of three with two past the table.
+// Prints the weighing call on every combination of seven figures, and the powers of three: all that fit 64 bits, two past them, and that of
+// the largest number.
 
 // The figures tried: small costs, the numbers around 10^15, and large numbers.
 fn figure(i: usize) -> u64 {
@@ -56,7 +57,7 @@ fn power(r: usize) {
 }
 
 fn powers() {
-    for r in 0..13 {
+    for r in 0..43 {
         power(r);
     }
 }
@@ -64,4 +65,5 @@ fn powers() {
 fn main() {
     weighings();
     powers();
+    power(usize::MAX);
 }

@@ -3,8 +3,9 @@ use Prim.Native.Nat.{ℕ, _-_, _*_}
 use native.Mathlib.Omega.{arith}
 use mathlib.Core.Path.{ap, _∙_}
 use borrow.Author.Needs.{needs}
+use Rattle.subsets.proofs.Powers.{power-value}
 use Rattle.planner.specs.declared.SplitBound.the-variants.{AtMost}
-use Rattle.planner.proofs.Bounding.{many-services, no-cabinets, many-cabinets, power-value, no-power, bound-fits, within}
+use Rattle.planner.proofs.Bounding.{many-services, no-cabinets, many-cabinets, no-power, bound-fits, within}
 use Rattle.planner.proofs.bound.Statement.{statement}
 use Rattle.planner.proofs.bound.Tie as tie
 
@@ -12,8 +13,14 @@ use Rattle.planner.proofs.bound.Tie as tie
 abbrev power-of-three-before-enum-told : tie.After-enum-told → tie.After-power-of-three
 power-of-three-before-enum-told c = c .before .before
 
+abbrev else1-before-enum-told : tie.After-enum-told → tie.Else1
+else1-before-enum-told c = c .before .before .before .before .before
+
 abbrev power-of-three-before-known-told : tie.After-known-told → tie.After-power-of-three
 power-of-three-before-known-told c = c .before .before .before
+
+abbrev else1-before-known-told : tie.After-known-told → tie.Else1
+else1-before-known-told c = c .before .before .before .before .before .before
 
 abbrev else2-before-known-told : tie.After-known-told → tie.Else2
 else2-before-known-told c = c .before .before .before .before .before
@@ -43,17 +50,17 @@ enum-told : tie.Need-enum-told
 enum-told c = search needs
 
 returns-4 : tie.Need-returns-4
-returns-4 c = no-power _ _ _ (power-of-three-before-enum-told c .power-of-three .ensures) (c .enum-told .given .1)
+returns-4 c = no-power _ _ _ (power-of-three-before-enum-told c .power-of-three .ensures) (c .enum-told .given .1) (else1-before-enum-told c .if1 .left)
 
 mul-t12 : tie.Need-mul-t12
 mul-t12 c =
-    let p = power-value (start-before-known-told c .args .services) (start-before-known-told c .args .cabinets) _ _ (power-of-three-before-known-told c .power-of-three .ensures) (c .before .power .given .1) in
-    omega (arith, ap (λ (n : ℕ). (start-before-known-told c .args .cabinets - 1) * n) (p .1), bound-fits (start-before-known-told c .args .services) (start-before-known-told c .args .cabinets) (p .0) (else3-before-known-told c .if3 .left))
+    let p = power-value (start-before-known-told c .args .services) _ (power-of-three-before-known-told c .power-of-three .ensures) _ (c .before .power .given .1) in
+    omega (arith, ap (λ (n : ℕ). (start-before-known-told c .args .cabinets - 1) * n) p, bound-fits (start-before-known-told c .args .services) (start-before-known-told c .args .cabinets) (else1-before-known-told c .if1 .left) (else3-before-known-told c .if3 .left))
 
 returns-5 : tie.Need-returns-5
 returns-5 c =
-    let p = power-value (start-before-known-told c .args .services) (start-before-known-told c .args .cabinets) _ _ (power-of-three-before-known-told c .power-of-three .ensures) (c .before .power .given .1) in
-    ap (λ (n : ℕ). AtMost ((start-before-known-told c .args .cabinets - 1) * n)) (p .1) ∙ within _ _ (p .0) (else2-before-known-told c .if2 .left) (else3-before-known-told c .if3 .left)
+    let p = power-value (start-before-known-told c .args .services) _ (power-of-three-before-known-told c .power-of-three .ensures) _ (c .before .power .given .1) in
+    ap (λ (n : ℕ). AtMost ((start-before-known-told c .args .cabinets - 1) * n)) p ∙ within _ _ (else1-before-known-told c .if1 .left) (else2-before-known-told c .if2 .left) (else3-before-known-told c .if3 .left)
 
 pub bound-spec : {M : Type 1} → statement M
 bound-spec =

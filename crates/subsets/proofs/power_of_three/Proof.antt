@@ -1,43 +1,42 @@
--- `subsets::power_of_three` meets its contract: the table's rule is one test over all of its entries, which antt computes.
-use mathlib.Core.Path.{_≡_, refl, ap}
-use mathlib.Core.Bool.{true}
-use mathlib.Core.List.{List, [], _∷_}
-use Prim.Native.Nat.{ℕ, _^_, _<_}
+-- `subsets::power_of_three` meets its contract: after i turns the number is 3^i, and where its triple would not fit no later power does.
+use Prim.Native.Nat.{ℕ, _+_, _-_, _^_, _≤_, _<_}
 use native.Mathlib.Omega.{arith}
-use lib.Dec.{eqb}
-use lib.ListN.{getD}
+use mathlib.Core.Path.{_≡_, refl, ap, sym, _∙_}
 use borrow.Author.Needs.{needs}
-use borrow.Author.Tests.{eqb-true, le-leb, lt-leb}
-use Rattle.finite.specs.Below as below
-use Rattle.finite.proofs.Tests.{all-at}
-use Rattle.subsets.specs.Powers.{power-of-three}
-use Rattle.subsets.specs.declared.Power.the-variants.{Value}
+use Rattle.subsets.proofs.Powers.{next-power, power-fits, power-past}
 use Rattle.subsets.proofs.power_of_three.Statement.{statement}
 use Rattle.subsets.proofs.power_of_three.Tie as tie
 
-abbrev powers : List ℕ
-powers = 1 ∷ 3 ∷ 9 ∷ 27 ∷ 81 ∷ 243 ∷ 729 ∷ 2187 ∷ 6561 ∷ 19683 ∷ 59049 ∷ []
+abbrev Inv-loop : tie.InvT-loop
+Inv-loop r power₀ i₀ power i = (i ≤ r) × (power ≡ 3 ^ i) × (power < 2 ^ 64)
 
-rule : below.all-below 11 (λ r. eqb (getD powers r 0) (3 ^ r)) ≡ true
-unfolding below.all-below
-rule = refl
+abbrev μ-loop : tie.MeasureT-loop
+μ-loop r power₀ i₀ power i = r - i
 
-right : (r : ℕ) → r < 11 → getD powers r 0 ≡ 3 ^ r
-right r h = eqb-true (getD powers r 0) (3 ^ r) (all-at 11 (λ r. eqb (getD powers r 0) (3 ^ r)) rule r h)
+loop-holds : tie.Need-loop-holds Inv-loop μ-loop
+loop-holds c = (omega arith, refl, omega arith)
 
-mul-t5 : tie.Need-mul-t5
-mul-t5 c = search needs
+returns : tie.Need-returns Inv-loop μ-loop
+returns c = sym (power-past (c .before .before .loop .i + 1) _ (omega arith) (omega (arith, next-power (c .before .before .loop .i) _ (c .before .before .loop .inv .1), c .if1 .taken)))
 
-array-read-t8 : tie.Need-array-read-t8
-array-read-t8 c = search needs
+mul-power : tie.Need-mul-power Inv-loop μ-loop
+mul-power c = search needs
 
-returns : tie.Need-returns
-unfolding power-of-three
-returns c = simp (le-leb _ _ (c .if1 .taken)) (ap Value (right (c .before .args .r) (omega arith)))
+add-i : tie.Need-add-i Inv-loop μ-loop
+add-i c = search needs
 
-returns-2 : tie.Need-returns-2
-unfolding power-of-three
-returns-2 c = simp (lt-leb _ _ (c .if1 .left))
+loop-less : tie.Need-loop-less Inv-loop μ-loop
+loop-less c = search needs
+
+loop-again : tie.Need-loop-again Inv-loop μ-loop
+loop-again c = (omega arith, next-power (c .before .before .loop .i) _ (c .before .before .loop .inv .1), omega (arith, c .if1 .left))
+
+returns-2 : tie.Need-returns-2 Inv-loop μ-loop
+returns-2 c =
+    let all : c .before .loop .i ≡ c .before .before .args .r = omega arith in
+    sym (power-fits _ _ (c .before .loop .inv .1 ∙ ap (λ (j : ℕ). 3 ^ j) all) (c .before .loop .inv .2))
 
 pub power-of-three-spec : {M : Type 1} → statement M
-power-of-three-spec = tie.close (tie.spec mul-t5 array-read-t8 returns returns-2)
+power-of-three-spec =
+    tie.close
+    (tie.spec Inv-loop μ-loop loop-holds returns mul-power add-i loop-less loop-again returns-2)

@@ -5,10 +5,10 @@ use Rattle.weighings.proofs.powers.Statement.{statement}
 use Rattle.weighings.proofs.powers.Tie as tie
 
 abbrev Inv-loop : tie.InvT-loop
-Inv-loop r₀ r = r ≤ 13
+Inv-loop r₀ r = r ≤ 43
 
 abbrev μ-loop : tie.MeasureT-loop
-μ-loop r₀ r = 13 - r
+μ-loop r₀ r = 43 - r
 
 loop-holds : tie.Need-loop-holds Inv-loop μ-loop
 loop-holds c = search needs
