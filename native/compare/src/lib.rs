@@ -7,15 +7,15 @@ mod proved;
 pub use options::Options;
 pub use proved::Proved;
 
-use differ::{Tally, compare};
+use differ::{Tally, compare, compare_bounds};
 use second::barred;
 use second::random::case::{Origin, with_calls};
 use second::random::layout::layout;
 use second::random::road::{Kind, of_kind};
 use second::random::{Case, Random, Size, case};
 
-/// Compares all cases: those written down for barred pairs, random ones, and large roads. The
-/// error is the first difference in full.
+/// Compares the bound for all numbers around the limits, then all cases: those written down for
+/// barred pairs, random ones, and large roads. The error is the first difference in full.
 pub fn run(options: &Options) -> Result<Tally, String> {
     let mut tally = Tally::default();
     let mut random = Random::new(options.seed);
@@ -23,6 +23,7 @@ pub fn run(options: &Options) -> Result<Tally, String> {
         services: options.services,
         cabinets: options.cabinets,
     };
+    compare_bounds(&Proved, &mut random, &mut tally)?;
     for directed in barred::all() {
         compare(&Proved, &directed.case(), &mut random, &mut tally)
             .map_err(|what| format!("{}: {what}", directed.name))?;

@@ -7,7 +7,8 @@ usage: compare [--cases N] [--large N] [--seed N] [--services R] [--cabinets S]
        compare --program PATH [--cases N] [--seed N]
 
 --cases     random roads and damaged sheets, whose every plan is tried (20,000); before them
-            come the cases that are written down for barred pairs
+            come the bound for all numbers around the limits and the cases that are written
+            down for barred pairs
 --large     roads of up to 10 services and 200 cabinets (40)
 --seed      the same cases for the same seed (1)
 --services  the most services of common roads (4)

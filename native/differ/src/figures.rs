@@ -29,12 +29,44 @@ pub fn weigh(subject: &dyn Subject, random: &mut Random, tally: &mut Tally) -> R
     Ok(())
 }
 
+/// Numbers that are too large for any limit, and what is left of them in fewer bits is not.
+const WIDE: [usize; 7] = [
+    65_535,
+    65_536,
+    65_546,
+    65_736,
+    1 << 32,
+    (1 << 32) + 10,
+    usize::MAX,
+];
+
 /// The bound for numbers in and around the limits.
 pub fn bound(subject: &dyn Subject, random: &mut Random, tally: &mut Tally) -> Result<(), String> {
-    let wide = random.pick(&[65_536, 65_537, 1 << 32, usize::MAX]);
+    let wide = random.pick(&WIDE);
     let [r, s] = [random.below(13), random.below(203)];
     let services = random.pick(&[r, r, r, 10, 11, wide]);
     let cabinets = random.pick(&[s, s, s, 0, 1, 200, 201, wide]);
+    bound_of(subject, services, cabinets, random, tally)
+}
+
+/// The bound for all numbers within the limits and around them: of services up to where 3^r is
+/// past 64 bits and past 128, of cabinets up to past 8 bits, and wide ones of both.
+pub fn bounds(subject: &dyn Subject, random: &mut Random, tally: &mut Tally) -> Result<(), String> {
+    for services in (0..=90).chain(WIDE) {
+        for cabinets in (0..=300).chain(WIDE) {
+            bound_of(subject, services, cabinets, random, tally)?;
+        }
+    }
+    Ok(())
+}
+
+fn bound_of(
+    subject: &dyn Subject,
+    services: usize,
+    cabinets: usize,
+    random: &mut Random,
+    tally: &mut Tally,
+) -> Result<(), String> {
     let (right, bound) = match second::bound(services, cabinets) {
         Ok(bound) => (0, bound),
         Err(refusal) => (refusal, 0),

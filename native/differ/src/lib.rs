@@ -46,6 +46,15 @@ fn calls(
     figures::bound(subject, random, tally)
 }
 
+/// Compares the bound for every pair of numbers within the limits and around them.
+pub fn compare_bounds(
+    subject: &dyn Subject,
+    random: &mut Random,
+    tally: &mut Tally,
+) -> Result<(), String> {
+    figures::bounds(subject, random, tally)
+}
+
 /// The difference with the sheet in full.
 fn describe(case: &Case, what: &str) -> String {
     let Case { origin, sheet, .. } = case;

@@ -214,5 +214,10 @@ faults! {
     BoundNoCabinet "bound: no cabinet has the bound 0"
     BoundAllCabinets "bound: the root is counted too"
     BoundIn16Bits "bound: the numbers are taken in 16 bits"
+    BoundFactorShort "bound: one multiplication by 3 too few"
+    BoundFactorOver "bound: one multiplication by 3 too many"
+    BoundTwo "bound: 2^r in place of 3^r"
+    BoundProductIn16Bits "bound: the product is taken in 16 bits"
+    BoundOnePair "bound: one too many for 7 services and 133 cabinets, and for no other numbers"
     BoundGroup "bound: its refusal belongs to the lender"
 }

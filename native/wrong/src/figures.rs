@@ -43,6 +43,18 @@ impl Faulty {
             true => s,
             false => s.saturating_sub(1),
         };
-        (0, [0, joined as u64 * 3_u64.pow(r as u32)])
+        (0, [0, self.product(r as u32, joined as u64)])
+    }
+
+    /// The cabinets joined, tripled once for each service.
+    fn product(&self, r: u32, joined: u64) -> u64 {
+        match self.0 {
+            Some(Fault::BoundFactorShort) => joined * 3_u64.pow(r.saturating_sub(1)),
+            Some(Fault::BoundFactorOver) => joined * 3_u64.pow(r + 1),
+            Some(Fault::BoundTwo) => joined * 2_u64.pow(r),
+            Some(Fault::BoundProductIn16Bits) => joined * 3_u64.pow(r) % 65_536,
+            Some(Fault::BoundOnePair) if (r, joined) == (7, 132) => joined * 3_u64.pow(r) + 1,
+            _ => joined * 3_u64.pow(r),
+        }
     }
 }

@@ -16,7 +16,7 @@ mod subject;
 pub use fault::Fault;
 pub use subject::Faulty;
 
-use differ::{Tally, compare};
+use differ::{Tally, compare, compare_bounds};
 use second::barred;
 use second::random::{Random, Size, case};
 
@@ -26,8 +26,9 @@ const SIZE: Size = Size {
     cabinets: 6,
 };
 
-/// Compares up to so many random cases, then those written down for barred pairs. Gives the first
-/// case that shows a difference, and the first line of what it shows.
+/// Compares up to so many random cases, then those written down for barred pairs, then the bound for
+/// all numbers around the limits. Gives the first case that shows a difference, and the first line
+/// of what it shows.
 pub fn first_difference(fault: Option<Fault>, cases: usize, seed: u64) -> Option<(String, String)> {
     let subject = Faulty(fault);
     let mut random = Random::new(seed);
@@ -43,7 +44,9 @@ pub fn first_difference(fault: Option<Fault>, cases: usize, seed: u64) -> Option
             return Some((directed.name.to_string(), first_line(&what)));
         }
     }
-    None
+    compare_bounds(&subject, &mut random, &mut tally)
+        .err()
+        .map(|what| ("of the bounds".to_string(), first_line(&what)))
 }
 
 fn first_line(text: &str) -> String {
