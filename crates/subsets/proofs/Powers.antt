@@ -1,6 +1,6 @@
 -- Laws of the powers of three that fit 64 bits.
 use Prim.Native.Nat.{ℕ, suc, _+_, _*_, _^_, _≤_, _<_}
-use native.Mathlib.Nat.{pow-le-pow-right, pow-succ'}
+use native.Mathlib.Nat.{pow-le-pow-right}
 use native.Mathlib.Omega.{arith}
 use mathlib.Core.Path.{_≡_, refl, ap, _∙_, sym}
 use mathlib.Core.Bool.{Bool, true, false, cond}
@@ -19,7 +19,7 @@ last-power = (refl, refl)
 pub next-power : (i n : ℕ) → n ≡ 3 ^ i → 3 * n ≡ 3 ^ (i + 1)
 next-power i n e =
     let z : 3 ^ (i + 1) ≡ 3 ^ suc i = ap (λ (j : ℕ). 3 ^ j) (let q : i + 1 ≡ suc i = omega arith in q) in
-    omega (arith, z, pow-succ' 3 i)
+    omega (arith, z)
 
 -- a power that fits is there
 pub power-fits : (r n : ℕ) → n ≡ 3 ^ r → n < 2 ^ 64 → power-of-three r ≡ Value n
@@ -31,10 +31,12 @@ pub power-past : (i r : ℕ) → i ≤ r → 2 ^ 64 ≤ 3 ^ i → power-of-three
 unfolding power-of-three
 power-past i r h k = rw (le-ltb (3 ^ r) (2 ^ 64) (let z : 3 ^ i ≤ 3 ^ r = pow-le-pow-right {n = 3} (omega arith) h in omega arith))
 
+-- the value that a test lets through
 value-of : (t : Bool) (m n : ℕ) → cond t (Value m) Outside ≡ Value n → n ≡ m
 value-of true m n e = cc
 value-of false m n e = absurd (let z : _≡_ {A = ℕ} 0 1 = cc in omega arith)
 
+-- a test that lets nothing through fails
 outside-of : (t : Bool) (m : ℕ) → cond t (Value m) Outside ≡ Outside → t ≡ false
 outside-of true m e = absurd (let z : _≡_ {A = ℕ} 0 1 = cc in omega arith)
 outside-of false m e = refl
