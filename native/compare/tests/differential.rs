@@ -23,7 +23,22 @@ fn no_difference_and_every_refusal() {
     for found in [0, 1] {
         assert!(tally.times("barred", found) > 0, "barred: {found}");
     }
-    // Every number of services and of cabinets within the limits, and more pairs outside them.
-    assert!(tally.times("bound", 0) >= 11 * 200);
-    assert!(tally.times("bound", 2) >= 11 * 200);
+    for refusal in [0, 2] {
+        assert!(tally.times("bound", refusal) > 0, "bound: {refusal}");
+    }
+}
+
+/// The cases written down make a few hundred calls of the bound at most; all others are those for
+/// every number of services and of cabinets.
+#[test]
+fn the_bound_in_and_around_the_limits() {
+    let options = Options {
+        cases: 0,
+        large: 0,
+        ..Options::default()
+    };
+    let tally = run(&options).unwrap_or_else(|difference| panic!("{difference}"));
+    let within = 11 * 200;
+    assert!(tally.times("bound", 0) >= within);
+    assert!(tally.times("bound", 2) >= 98 * 308 - within);
 }

@@ -29,7 +29,7 @@ pub fn weigh(subject: &dyn Subject, random: &mut Random, tally: &mut Tally) -> R
     Ok(())
 }
 
-/// Numbers that are too large for any limit, and what is left of them in fewer bits is not.
+/// Numbers past every limit; in 16 or 32 bits most of them would be within one.
 const WIDE: [usize; 7] = [
     65_535,
     65_536,
