@@ -326,6 +326,17 @@ static void bound_limits(struct bound *call)
     real_bound(call);
 }
 
+static void bound_eleven(struct bound *call)
+{
+    int eleven = call->services == 11;
+
+    if (eleven)
+        call->services = 10;
+    real_bound(call);
+    if (eleven)
+        call->answer[1] *= 3;
+}
+
 const struct fault planner_faults[] = {
     {.what = "gz_plan answers 11 before 10", .plan = plan_tables_first},
     {.what = "gz_plan answers 10 for an output of r places", .plan = plan_needs_more},
@@ -361,5 +372,6 @@ const struct fault planner_faults[] = {
     {.what = "gz_plan touches the choices with 18", .plan = plan_touches_refused},
     {.what = "gz_bound answers one too low for 10 services", .bound = bound_low},
     {.what = "gz_bound takes 201 cabinets", .bound = bound_limits},
+    {.what = "gz_bound takes 11 services", .bound = bound_eleven},
     {.what = NULL},
 };

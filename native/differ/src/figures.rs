@@ -49,9 +49,13 @@ pub fn bound(subject: &dyn Subject, random: &mut Random, tally: &mut Tally) -> R
     bound_of(subject, services, cabinets, random, tally)
 }
 
-/// The bound for all numbers within the limits and around them: of services up to where 3^r is
-/// past 64 bits and past 128, of cabinets up to past 8 bits, and wide ones of both.
-pub fn bounds(subject: &dyn Subject, random: &mut Random, tally: &mut Tally) -> Result<(), String> {
+/// Compares the bound for all numbers within the limits and around them: of services up to where
+/// 3^r is past 64 bits and past 128, of cabinets up to past 8 bits, and wide ones of both.
+pub fn compare_bounds(
+    subject: &dyn Subject,
+    random: &mut Random,
+    tally: &mut Tally,
+) -> Result<(), String> {
     for services in (0..=90).chain(WIDE) {
         for cabinets in (0..=300).chain(WIDE) {
             bound_of(subject, services, cabinets, random, tally)?;

@@ -10,6 +10,7 @@ mod reader;
 mod subject;
 mod tally;
 
+pub use figures::compare_bounds;
 pub use subject::Subject;
 pub use tally::Tally;
 
@@ -44,15 +45,6 @@ fn calls(
     }
     figures::weigh(subject, random, tally)?;
     figures::bound(subject, random, tally)
-}
-
-/// Compares the bound for every pair of numbers within the limits and around them.
-pub fn compare_bounds(
-    subject: &dyn Subject,
-    random: &mut Random,
-    tally: &mut Tally,
-) -> Result<(), String> {
-    figures::bounds(subject, random, tally)
 }
 
 /// The difference with the sheet in full.
