@@ -1,4 +1,4 @@
--- Small roads, by computation: 02's barred pairs, what 01's measured roads leave open, and that the theorems have instances.
+-- Small roads, by computation: 02's barred pairs, the first of the cheapest plans, what 01's measured roads leave open, and that the theorems have instances.
 use Prim.Native.Nat.{ℕ, zero, suc, _≤_, _<_}
 use native.Mathlib.Omega.{arith}
 use mathlib.Core.Bool.{Bool, true, false, _&&_}
@@ -20,6 +20,7 @@ use Rattle.embedding.specs.Definition1.{member, Feasible, cost}
 use Rattle.embedding.specs.Limits.{Limits}
 use Rattle.embedding.specs.Road.{up, down, lower, by-way, edge-price, road}
 use Rattle.embedding.specs.Plan.{place, path-within, path, routes, demand-of, fits, unbarred, admits, link-fits, fee, toll, weight, carried, link-keeps, in-range, bars-keep, cabinets-keep, links-keep, valid, cabinets-cost, links-cost, plan-cost, digit, worth, cheapest}
+use Rattle.embedding.specs.First.{nth-plan, first-from, equals, places, is-cheapest, first-number, first-plan}
 use Rattle.embedding.specs.Splits.{stands, keeps, placeable, weighed}
 use Rattle.embedding.specs.Inner.Charge.{leaving, entering, cabinet-charge, link-charge, net}
 use Rattle.embedding.proofs.Mappings.{plan-iff-mapping}
@@ -52,9 +53,13 @@ barring d c s b = record {
 abbrev instance : List (List ℕ) → List (List ℕ) → List (List ℕ) → Instance
 instance d c s = barring d c s (λ i c. false)
 
+-- the cabinets of M, with this capacity of the root
+abbrev rooted : ℕ → List (List ℕ)
+rooted root = (65535 ∷ root ∷ 5 ∷ 0 ∷ 0 ∷ 0 ∷ 0 ∷ []) ∷ (0 ∷ 3 ∷ 1 ∷ 6 ∷ 2 ∷ 6 ∷ 1 ∷ []) ∷ (0 ∷ 3 ∷ 2 ∷ 2 ∷ 1 ∷ 6 ∷ 1 ∷ []) ∷ []
+
 -- the cabinets of M
 abbrev cabinets : List (List ℕ)
-cabinets = (65535 ∷ 4 ∷ 5 ∷ 0 ∷ 0 ∷ 0 ∷ 0 ∷ []) ∷ (0 ∷ 3 ∷ 1 ∷ 6 ∷ 2 ∷ 6 ∷ 1 ∷ []) ∷ (0 ∷ 3 ∷ 2 ∷ 2 ∷ 1 ∷ 6 ∷ 1 ∷ []) ∷ []
+cabinets = rooted 4
 
 -- M with these services barred from these cabinets
 abbrev M-barring : (ℕ → ℕ → Bool) → Instance
@@ -90,6 +95,34 @@ plans-barred = refl
 -- and no mapping over (0,1) keeps the limits
 limits-barred : (ρ : ℕ → List ℕ) → Limits M-one (place (0 ∷ 1 ∷ [])) ρ → ⊥
 limits-barred ρ L = clash (L .bars 0 (omega arith))
+
+-- ---- the first of the cheapest
+
+-- M0: M with no room on the root
+abbrev M0 : Instance
+M0 = instance ((2 ∷ []) ∷ (2 ∷ []) ∷ []) (rooted 0) ((0 ∷ 1 ∷ 3 ∷ []) ∷ [])
+
+-- Z: M0 with a third service of demand 0, and streams of 3 from it to each of the others
+abbrev Z : Instance
+Z = instance ((2 ∷ []) ∷ (2 ∷ []) ∷ (0 ∷ []) ∷ []) (rooted 0) ((2 ∷ 0 ∷ 3 ∷ []) ∷ (2 ∷ 1 ∷ 3 ∷ []) ∷ [])
+
+-- two services that may change places: each of the two cabinets has room for one of them, at the same price
+abbrev either-way : Instance
+either-way = instance ((1 ∷ []) ∷ (1 ∷ []) ∷ []) ((65535 ∷ 1 ∷ 1 ∷ 0 ∷ 0 ∷ 0 ∷ 0 ∷ []) ∷ (0 ∷ 1 ∷ 1 ∷ 0 ∷ 0 ∷ 0 ∷ 0 ∷ []) ∷ []) []
+
+-- the first of the cheapest plans, as a list
+abbrev first-of : Instance → List ℕ
+first-of I = places (I .r) (first-plan I)
+
+-- (0,1) on M, where (1,2) costs the same; (1,2) on M0; the lower cabinet for service 0, not for service 1; and (1,2) on M where service 0 is barred from cabinet 0
+firsts : first-of M ∷ first-of M0 ∷ first-of either-way ∷ first-of M-one ∷ [] ≡ (0 ∷ 1 ∷ []) ∷ (1 ∷ 2 ∷ []) ∷ (0 ∷ 1 ∷ []) ∷ (1 ∷ 2 ∷ []) ∷ []
+unfolding first-plan first-number first-from nth-plan equals places is-cheapest worth cheapest lesser least-below digit _⇒_ only sum-below all-below sum-over member up down lower by-way edge-price path-within path routes demand-of fits fee weight carried link-fits link-keeps in-range bars-keep cabinets-keep links-keep valid cabinets-cost links-cost plan-cost provided
+firsts = refl
+
+-- (1,2,0) on Z
+first-of-Z : first-of Z ≡ 1 ∷ 2 ∷ 0 ∷ []
+unfolding first-plan first-number first-from nth-plan equals places is-cheapest worth cheapest lesser least-below digit _⇒_ only sum-below all-below sum-over member up down lower by-way edge-price path-within path routes demand-of fits fee weight carried link-fits link-keeps in-range bars-keep cabinets-keep links-keep valid cabinets-cost links-cost plan-cost provided
+first-of-Z = refl
 
 -- ---- what 01's roads leave open
 

@@ -25,7 +25,8 @@ use Rattle.embedding.proofs.Charges.{everywhere, charges}
 module _ (I : Instance) (W : WellFormed I) where
   -- ---- the cheapest is the least of all plans in range
 
-  cheapest-low : (π : ℕ → ℕ) → InRange I π → Le (cheapest I) (worth I π)
+  -- no plan in range is worth less
+  pub cheapest-low : (π : ℕ → ℕ) → InRange I π → Le (cheapest I) (worth I π)
   unfolding cheapest
   cheapest-low π p =
       let w = number (I .s) (I .r) π p in

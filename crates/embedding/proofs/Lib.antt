@@ -13,4 +13,5 @@ pub mod Charges
 pub mod Digits
 pub mod Splits
 pub mod Cheapest
+pub mod First
 pub mod Theorems

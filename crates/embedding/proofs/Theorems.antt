@@ -9,6 +9,7 @@ use Rattle.finite.specs.Below.{only, sum-below, sum-over}
 use Rattle.subsets.specs.Inner.Masks.{full}
 use Rattle.subsets.specs.Sets.{subset}
 use Rattle.subsets.specs.Tree.{under, before}
+use Rattle.subsets.specs.Order.{NotAfter}
 use Rattle.subsets.specs.Costs.{Cost, none, some, is-some}
 use Rattle.subsets.specs.Inner.Net.{charge, Least}
 use Rattle.sheet.specs.Instance.{Instance, WellFormed}
@@ -16,6 +17,7 @@ use Rattle.embedding.specs.Definition1.{Input, AtMost, member, SimplePat
 use Rattle.embedding.specs.Limits.{Limits}
 use Rattle.embedding.specs.Road.{up, down, tree, road}
 use Rattle.embedding.specs.Plan.{path, routes, toll, weight, carried, in-range, valid, links-cost, plan-cost, cheapest}
+use Rattle.embedding.specs.First.{first-plan}
 use Rattle.embedding.specs.Splits.{keeps, placeable, weighed}
 use Rattle.embedding.specs.Inner.Charge.{leaving, entering, net}
 use Rattle.embedding.proofs.Feasible as feasible
@@ -29,6 +31,7 @@ use Rattle.embedding.proofs.Bound as bounds
 use Rattle.embedding.proofs.Charges as charged
 use Rattle.embedding.proofs.Splits as splits
 use Rattle.embedding.proofs.Cheapest as least
+use Rattle.embedding.proofs.First as firsts
 
 -- On any graphs: a mapping along simple paths that keeps both sums keeps every single demand too, so it is feasible.
 pub sums-suffice : (P : Input) (m : ℕ → ℕ) (p : ℕ → List ℕ) →
@@ -124,3 +127,13 @@ module _ (I : Instance) (W : WellFormed I) where
   -- There is no cheapest plan exactly when there is no feasible mapping that keeps the limits.
   pub cheapest-none : (cheapest I ≡ none) ↔ ((π : ℕ → ℕ) (ρ : ℕ → List ℕ) → Feasible (road I) π ρ → Limits I π ρ → ⊥)
   cheapest-none = least.cheapest-none I W
+
+  -- Where the cheapest plan costs k, a mapping over the first plan is feasible, keeps the limits, and costs k.
+  pub first-feasible : (k : ℕ) → cheapest I ≡ some k
+      → (ρ : ℕ → List ℕ) × Feasible (road I) (first-plan I) ρ × Limits I (first-plan I) ρ × (cost (road I) (first-plan I) ρ ≡ k)
+  first-feasible = firsts.first-feasible I W
+
+  -- And the first plan is not after the plan of any feasible mapping that keeps the limits and costs k.
+  pub first-mapping : (k : ℕ) → cheapest I ≡ some k
+      → (π : ℕ → ℕ) (ρ : ℕ → List ℕ) → Feasible (road I) π ρ → Limits I π ρ → cost (road I) π ρ ≡ k → NotAfter (I .r) (first-plan I) π
+  first-mapping = firsts.first-mapping I W

@@ -3,5 +3,6 @@ pub mod Definition1
 pub mod Limits
 pub mod Road
 pub mod Plan
+pub mod First
 pub mod Splits
 pub mod Inner

@@ -86,6 +86,13 @@ pub Le-none : (x : Cost) → Le x none
 unfolding Le
 Le-none x = tt
 
+-- of two costs one is at most the other
+pub Le-not : (x y : Cost) → (Le x y → ⊥) → Le y x
+unfolding Le
+Le-not x none h = absurd (h tt)
+Le-not none (some b) h = tt
+Le-not (some a) (some b) h = omega arith
+
 -- sums keep the order
 pub Le-⊕ : (x y u v : Cost) → Le x u → Le y v → Le (x ⊕ y) (u ⊕ v)
 unfolding Le _⊕_

@@ -1,28 +1,25 @@
--- The fold over subsets that the planner's join makes: its cost is the least over splits, its choice is a split that has it, and its count
--- is the number of subsets whose figure is a cost.
+-- The fold over subsets that the planner's join makes, for any figures whatever: its steps, what it depends on, and its count, which is the number
+-- of subsets whose figure is a cost.
 use mathlib.Core.Path.{_≡_, refl, sym, ap, ap₂, _∙_, subst}
 use mathlib.Core.Bool.{Bool, true, false, _&&_, _||_, cond}
 use Prim.Native.Nat.{ℕ, zero, suc, _+_, _-_, _^_, _≤_, _<_, min}
 use native.Mathlib.Omega.{arith}
-use native.Mathlib.Decide.{le-ind, decLt}
-use lib.Dec.{eqb, ltb}
+use native.Mathlib.Decide.{le-ind}
+use lib.Dec.{ltb}
 use lib.Bits.{bitAnd, and-zero-l}
-use borrow.Author.Tests.{eqb-true, eqb-false, eq-eqb, ne-eqb, ltb-true, ltb-false}
+use borrow.Author.Tests.{eqb-true, eq-eqb, ne-eqb}
 use Rattle.finite.specs.Below.{only, sum-below}
 use Rattle.finite.proofs.Sums.{sum-ext, sum-more, sum-le, only-le}
 use Rattle.subsets.specs.Inner.Masks.{within}
-use Rattle.subsets.specs.Costs.{Cost, none, some, lesser, provided, is-some}
-use Rattle.subsets.specs.Inner.Totals.{_⊕_, Le}
-use Rattle.subsets.specs.Figures.{limit, is-cost, read, capped, lesser-figure, weighing}
-use Rattle.subsets.specs.Inner.Encoded.{nothing, figure}
-use Rattle.subsets.specs.Inner.Splits.{split-charge, least-split, winner}
+use Rattle.subsets.specs.Costs.{Cost, is-some}
+use Rattle.subsets.specs.Figures.{is-cost, read, lesser-figure, weighing}
+use Rattle.subsets.specs.Inner.Encoded.{nothing}
+use Rattle.subsets.specs.Inner.Splits.{split-charge}
 use Rattle.subsets.specs.Inner.Count.{pairs}
 use Rattle.subsets.specs.Inner.Folds.{earlier, is-tie, tried, scan, start, best-split, counted-below}
 use Rattle.subsets.specs.declared.Best.{Best}
-use Rattle.subsets.proofs.Costs.{Le-trans, lesser-l, lesser-r}
-use Rattle.subsets.proofs.Figures.{read-cost, read-none, read-some, read-is, read-sum, read-weighing, figure-read}
+use Rattle.subsets.proofs.Figures.{read-is}
 use Rattle.subsets.proofs.Sets.{Sub, sub-le, subset-within}
-use Rattle.subsets.proofs.Subsets.{subset-least, winner-is, winner-none}
 use Rattle.subsets.proofs.Loop.{next-below, next-largest}
 
 -- ---- how ties are settled changes neither the cost nor the count
@@ -147,22 +144,14 @@ counted-ext row row₁ child child₁ link link₁ n f g h =
 
 -- ---- one weighing
 
-lesser-le : (best p q l : ℕ) → lesser-figure best p q l ≤ best
+-- a weighing leaves the best or makes it less
+pub lesser-le : (best p q l : ℕ) → lesser-figure best p q l ≤ best
 unfolding lesser-figure
 lesser-le best p q l = go (is-cost p && (is-cost q && is-cost l))
   where
     go : (t : Bool) → cond t (min best (p + q + l)) best ≤ best
     go true = omega arith
     go false = omega arith
-
--- a best that became less is the sum of three costs
-lesser-sum : (best p q l : ℕ) → lesser-figure best p q l < best → read p ⊕ read q ⊕ read l ≡ some (lesser-figure best p q l)
-unfolding lesser-figure
-lesser-sum best p q l h = go (is-cost p && (is-cost q && is-cost l)) refl h
-  where
-    go : (t : Bool) → is-cost p && (is-cost q && is-cost l) ≡ t → cond t (min best (p + q + l)) best < best → read p ⊕ read q ⊕ read l ≡ some (cond t (min best (p + q + l)) best)
-    go true e h = read-sum p q l true e ∙ unfold provided in ap some (let z : p + q + l ≡ min best (p + q + l) = omega arith in z)
-    go false e h = absurd (omega arith)
 
 -- ---- for any lists whatever
 
@@ -222,152 +211,3 @@ counted-pairs row child link r =
     outside : (x a : ℕ) → suc x ≤ a → flag row child link x a ≡ 0
     outside x a h =
         ap (λ (t : Bool). only (t && is-some (read (row a))) 1) (ne-eqb (bitAnd a x) a (λ s. omega (arith, sub-le a x s))) ∙ unfold only in refl
-
--- ---- for lists whose sums are figures
-
--- every sum of three costs, one for each split of x, is at most the limit
-abbrev pub Fits : (ℕ → ℕ) → (ℕ → ℕ) → (ℕ → ℕ) → ℕ → Type 0
-Fits row child link x = (a n : ℕ) → Sub a x → costs row child link x a ≡ some n → n ≤ limit
-
--- what holds once the subsets from n on are tried
-record Tried (row child link : ℕ → ℕ) (x n : ℕ) (b : Best) : Type 0 where
-  low : (a : ℕ) → Sub a x → n ≤ a → Le (read (b .cost)) (costs row child link x a)
-  top : b .cost ≤ nothing
-  won : b .cost ≤ limit → costs row child link x (b .chosen) ≡ some (b .cost)
-  -- the first in falling order that has it
-  seen : b .cost ≤ limit → n ≤ b .chosen
-  first : b .cost ≤ limit → (a : ℕ) → Sub a x → b .chosen < a → costs row child link x a ≡ some (b .cost) → ⊥
-  empty : limit < b .cost → b .chosen ≡ 0
-
-module _ (row child link : ℕ → ℕ) (x : ℕ) (fits : Fits row child link x) where
-  abbrev F : ℕ → Cost
-  F = costs row child link x
-
-  capped-fits : (a : ℕ) → Sub a x → (f : Cost) → F a ≡ f → capped (F a) ≡ F a
-  unfolding capped
-  capped-fits a s none e = rw e
-  capped-fits a s (some n) e = rw e (read-cost n (fits a n s e))
-
-  tried-none : Tried row child link x (suc x) start
-  tried-none = record {
-    low = λ a s h. absurd (omega (arith, sub-le a x s));
-    top = omega arith;
-    won = λ h. absurd (omega arith);
-    seen = λ h. absurd (omega arith);
-    first = λ h. absurd (omega arith);
-    empty = λ h. refl;
-  }
-
-  tried-at : (a : ℕ) (b : Best) → Sub a x → Tried row child link x (suc a) b → Tried row child link x a (try-at earlier row child link x b a)
-  unfolding weighing
-  tried-at a b s T = record {
-    low = λ c t h. rw less (go c t h (eqb c a) refl);
-    top = omega (arith, lesser-le (b .cost) p q l, T .top);
-    won = won (ltb new (b .cost)) refl;
-    seen = seen (ltb new (b .cost)) refl;
-    first = first (ltb new (b .cost)) refl;
-    empty = empty (ltb new (b .cost)) refl;
-  }
-    where
-      p : ℕ
-      p = row a
-
-      q : ℕ
-      q = child (x - a)
-
-      l : ℕ
-      l = link (x - a)
-
-      new : ℕ
-      new = lesser-figure (b .cost) p q l
-
-      less : read new ≡ lesser (read (b .cost)) (F a)
-      less = read-weighing (b .cost) p q l ∙ ap (lesser (read (b .cost))) (capped-fits a s (F a) refl)
-
-      go : (c : ℕ) → Sub c x → a ≤ c → (t : Bool) → eqb c a ≡ t → Le (lesser (read (b .cost)) (F a)) (F c)
-      go c t h true e = rw (eqb-true c a e) (lesser-r (read (b .cost)) (F a))
-      go c t h false e =
-          let n : (c ≡ a → ⊥) = eqb-false c a e in
-          Le-trans _ _ _ (lesser-l (read (b .cost)) (F a)) (T .low c t (omega arith))
-
-      kept : ltb new (b .cost) ≡ false → b .cost ≡ new
-      kept e = omega (arith, lesser-le (b .cost) p q l, ltb-false new (b .cost) e)
-
-      won : (t : Bool) → ltb new (b .cost) ≡ t → new ≤ limit → F (cond t a (b .chosen)) ≡ some new
-      won true e h = lesser-sum (b .cost) p q l (ltb-true new (b .cost) e)
-      won false e h =
-          let same : b .cost ≡ new = kept e in
-          T .won (omega arith) ∙ ap some same
-
-      seen : (t : Bool) → ltb new (b .cost) ≡ t → new ≤ limit → a ≤ cond t a (b .chosen)
-      seen true e h = omega arith
-      seen false e h = omega (arith, T .seen (omega (arith, kept e)))
-
-      -- what was seen before is not below the old best
-      old : (c : ℕ) → Sub c x → a < c → new < b .cost → (f : Cost) → read (b .cost) ≡ f → F c ≡ some new → ⊥
-      old c t h m none r k = unfold Le in subst (λ (f : Cost). Le f (some new)) r (subst (Le (read (b .cost))) k (T .low c t h))
-      old c t h m (some n) r k =
-          let z : n ≤ new = unfold Le in subst (λ (f : Cost). Le f (some new)) r (subst (Le (read (b .cost))) k (T .low c t h)) in
-          omega (arith, read-some (b .cost) n r .0)
-
-      first : (t : Bool) → ltb new (b .cost) ≡ t → new ≤ limit → (c : ℕ) → Sub c x → cond t a (b .chosen) < c → F c ≡ some new → ⊥
-      first true e h c t j k = old c t j (ltb-true new (b .cost) e) (read (b .cost)) refl k
-      first false e h c t j k = T .first (omega (arith, kept e)) c t j (k ∙ ap some (sym (kept e)))
-
-      empty : (t : Bool) → ltb new (b .cost) ≡ t → limit < new → cond t a (b .chosen) ≡ 0
-      empty true e h = absurd (omega (arith, ltb-true new (b .cost) e, T .top))
-      empty false e h = T .empty (omega (arith, kept e))
-
-  tried-pass : (a : ℕ) (b : Best) → (Sub a x → ⊥) → Tried row child link x (suc a) b → Tried row child link x a b
-  tried-pass a b n T = record {
-    low = λ c t h. T .low c t (let z : (c ≡ a → ⊥) = λ e. n (subst (λ (z : ℕ). Sub z x) e t) in omega arith);
-    top = T .top;
-    won = T .won;
-    seen = λ h. let z : suc a ≤ b .chosen = T .seen h in omega arith;
-    first = T .first;
-    empty = T .empty;
-  }
-
-  tried-all : (n : ℕ) (b : Best) → Tried row child link x n b → Tried row child link x 0 (scan earlier row child link x n b)
-  unfolding scan
-  tried-all zero b T = T
-  tried-all (suc a) b T = tried-all a _ (go (within a x) refl)
-    where
-      go : (t : Bool) → within a x ≡ t → Tried row child link x a (cond t (try-at earlier row child link x b a) b)
-      go true e = tried-at a b (eqb-true (bitAnd a x) a e) T
-      go false e = tried-pass a b (eqb-false (bitAnd a x) a e) T
-
-  done : Tried row child link x 0 (best-split earlier row child link x)
-  unfolding best-split
-  done = tried-all (suc x) start tried-none
-
-  least : read (best-split earlier row child link x .cost) ≡ least-split (λ a. read (row a)) (λ a. read (child a)) (λ a. read (link a)) x
-  least = subset-least F x (read (best-split earlier row child link x .cost)) (λ a s. done .low a s (omega arith)) met
-    where
-      met : (n : ℕ) → read (best-split earlier row child link x .cost) ≡ some n → (a : ℕ) × Sub a x × (F a ≡ read (best-split earlier row child link x .cost))
-      met n e =
-          let h = read-some (best-split earlier row child link x .cost) n e in
-          (best-split earlier row child link x .chosen, best-sub earlier row child link x, done .won (h .1) ∙ sym (read-cost _ (h .1)))
-
-  won : best-split earlier row child link x .chosen ≡ winner F x
-  won = go (decLt limit (best-split earlier row child link x .cost))
-    where
-      go : Dec (limit < best-split earlier row child link x .cost) → best-split earlier row child link x .chosen ≡ winner F x
-      go (yes h) = done .empty h ∙ sym (winner-none F x (sym least ∙ read-none _ h))
-      go (no h) =
-          let k : best-split earlier row child link x .cost ≤ limit = omega arith in
-          sym (winner-is F x _ _ (best-sub earlier row child link x) (sym least ∙ read-cost _ k) (done .won k) (done .first k))
-
-  module _ (lower : ℕ → ℕ → Bool) where
-    -- The cost, read as a figure, is the least over splits.
-    pub best-least : read (best-split lower row child link x .cost) ≡ least-split (λ a. read (row a)) (λ a. read (child a)) (λ a. read (link a)) x
-    best-least = ap read (any-cost lower earlier row child link x) ∙ least
-
-    -- So the number itself is the figure of the least.
-    pub best-figure : best-split lower row child link x .cost ≡ figure (least-split (λ a. read (row a)) (λ a. read (child a)) (λ a. read (link a)) x)
-    best-figure = sym (ap figure (sym best-least) ∙ figure-read (best-split lower row child link x .cost) (best-top lower row child link x))
-
-    -- Where ties go to the earlier, the choice is the winner.
-    pub best-winner : ((a d : ℕ) → lower a d ≡ false) → best-split lower row child link x .chosen ≡ winner F x
-    best-winner ties =
-        ap (λ (b : Best). b .chosen) (best-ext lower earlier row row child child link link x (λ a d s t. ties a d) (λ k l. refl) (λ k l. refl) (λ k l. refl)) ∙ won

@@ -1,4 +1,5 @@
 -- The laws behind the definitions of specs/. Join has the theorem, Rows the walk over the tree, Count the count, Back the placing read back, Tables one join of the planner, Rebuild a row with all its children.
+-- Ties has the best split where keys settle ties, Keys and Order the keys of placings, First the first of the cheapest, KeyTables one join with keys, Digits the placing in a key.
 pub mod Back
 pub mod Bound
 pub mod Charges
@@ -15,6 +16,14 @@ pub mod Rows
 pub mod Sets
 pub mod Small
 pub mod Subsets
+pub mod Ties
 pub mod Tables
 pub mod Tree
 pub mod Rebuild
+pub mod Keys
+pub mod Order
+pub mod First
+pub mod KeyParts
+pub mod Digits
+pub mod KeyRows
+pub mod KeyTables

@@ -11,3 +11,4 @@ pub mod Count
 pub mod Folds
 pub mod Rebuild
 pub mod Back
+pub mod Keys

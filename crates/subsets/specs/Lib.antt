@@ -2,6 +2,7 @@
 pub mod Sets
 pub mod Costs
 pub mod Tree
+pub mod Order
 pub mod Figures
 pub mod Powers
 pub mod Inner

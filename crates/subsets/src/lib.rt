@@ -1,4 +1,4 @@
-// Weighing a split, the powers of three, and sets of services as the binary digits of a number.
+// Weighing a split, settling ties, the powers of three, and sets of services as the binary digits of a number.
 ghost use mathlib.Core.Path.{_≡_};
 ghost use mathlib.Core.Bool.{cond};
 ghost use Prim.Native.Nat.{_-_, min};
@@ -7,6 +7,7 @@ ghost use Rattle.finite.specs.Below.{only};
 ghost use Rattle.subsets.specs.Sets.{has};
 ghost use Rattle.subsets.specs.Figures.{is-cost, weighing};
 ghost use Rattle.subsets.specs.Powers.{power-of-three};
+ghost use Rattle.subsets.specs.Inner.Folds.{may-tie, is-tie, key-before};
 use std::num::wrapping_add_u64;
 
 // The largest figure that is a cost. Any number above it is 'none'.
@@ -25,6 +26,12 @@ pub struct Best {
     pub cost: u64,
     pub chosen: usize,
     pub counted: u64,
+}
+
+// The key of a placing, by which ties are settled: a number in two parts, its first digits and its others.
+pub struct Key {
+    pub high: u64,
+    pub low: u64,
 }
 
 // Whether a figure is a cost.
@@ -56,6 +63,30 @@ pub fn weigh(best: u64, placed: u64, rest: u64, link: u64) -> Weighed
         best: lower(best, sum, costs),
         counted: is_cost(placed) as u64,
     }
+}
+
+// Whether the three figures, costs or not, sum to the best. Where they do not there is no tie, and it seldom happens by chance.
+pub fn may_tie(best: u64, placed: u64, rest: u64, link: u64) -> bool
+    ensures { λ b. ⌜ b ≡ may-tie best placed rest link ⌝ }
+{
+    wrapping_add_u64(wrapping_add_u64(placed, rest), link) == best
+}
+
+// Whether a split costs just as much as the best: its three figures are costs, and their sum is the best.
+pub fn is_tie(best: u64, placed: u64, rest: u64, link: u64) -> bool
+    ensures { λ b. ⌜ b ≡ is-tie best placed rest link ⌝ }
+{
+    is_cost(placed) & is_cost(rest) & is_cost(link) & may_tie(best, placed, rest, link)
+}
+
+// Whether the first key comes before the second.
+pub fn comes_before(first: Key, second: Key) -> bool
+    ensures { λ b. ⌜ b ≡ key-before first second ⌝ }
+{
+    if first.high == second.high {
+        return first.low < second.low;
+    }
+    first.high < second.high
 }
 
 // The largest number whose triple fits 64 bits.
