@@ -3,6 +3,5 @@ mod Written
 mod Summing
 pub mod Sounding
 mod Filling
-mod Children
-mod Walking
+mod Placing
 mod Deciding

@@ -3,22 +3,22 @@ use Prim.Native.Nat.{ℕ, _-_, _*_, _^_, _≤_, _<_}
 use native.Mathlib.Omega.{arith}
 use native.Mathlib.Nat.{mul-le-mul, pow-le-pow-right}
 use mathlib.Core.Path.{_≡_, refl, sym, ap, _∙_}
-use mathlib.Core.Bool.{Bool, true, false, _&&_, not}
-use mathlib.Core.Logic.{⊎-elim}
+use mathlib.Core.Bool.{Bool, true, _&&_, not}
 use mathlib.Core.List.{List}
 use lib.Dec.{eqb, leb, ltb}
 use lib.ListN.{getD}
 use borrow.Author.Tests.{eqb-true, eq-eqb, leb-true, ltb-true, lt-ltb}
 use Rattle.finite.specs.Below.{only}
-use Rattle.finite.proofs.Booleans.{clash, both-l, both-r, either}
+use Rattle.finite.proofs.Booleans.{clash, both-l, both-r}
 use Rattle.finite.proofs.Tests.{all-at}
 use Rattle.subsets.specs.Inner.Net.{Falls}
 use Rattle.subsets.specs.Costs.{some}
 use Rattle.subsets.specs.Figures.{limit}
 use Rattle.subsets.proofs.Provided.{provided-some}
 use Rattle.rows.specs.Cabinets as records
-use Rattle.rows.specs.Cabinets.{field, parent-of}
-use Rattle.core.specs.Sound.{amounts, falling, between, running, rooted, cabinets-sound, fields-sound, sound}
+use Rattle.rows.specs.Cabinets.{field, parent-of, falling}
+use Rattle.rows.proofs.Guards.{field-all, parent-lt}
+use Rattle.core.specs.Sound.{amounts, between, running, rooted, cabinets-sound, fields-sound, sound}
 use Rattle.core.specs.Sums.{demand-in, flow-out}
 use Rattle.core.specs.Tables.{netted}
 use Rattle.records.specs.declared.Records.{Records}
@@ -27,15 +27,6 @@ use Rattle.records.specs.declared.Records.{Records}
 pub field-in : (n : ℕ) (l : List ℕ) (i : ℕ) → i < n → field n l i ≡ getD l i 0
 unfolding only
 field-in n l i h = rw (lt-ltb i n h) refl
-
--- what holds of 0 and of the first n fields holds of every field
-field-all : (P : ℕ → Type 0) (n : ℕ) (l : List ℕ) (i : ℕ) → P 0 → (i < n → P (getD l i 0)) → P (field n l i)
-unfolding only
-field-all P n l i z h = go (ltb i n) refl
-  where
-    go : (t : Bool) → ltb i n ≡ t → P (only t (getD l i 0))
-    go true e = h (ltb-true i n e)
-    go false e = z
 
 -- sound records
 pub record Good (k : Records) : Type 0 where
@@ -59,12 +50,6 @@ amount-le : (n : ℕ) (l : List ℕ) → amounts n l ≡ true → (i : ℕ) → 
 unfolding amounts
 amount-le n l e i = field-all (λ v. v ≤ 10000) n l i (omega arith) (λ h. leb-true (getD l i 0) 10000 (all-at n (λ d. leb (getD l d 0) 10000) e i h))
 
-parent-lt : (n : ℕ) (l : List ℕ) → falling n l ≡ true → (c : ℕ) → 0 < c → field n l c < c
-unfolding falling
-parent-lt n l e c z =
-    field-all (λ v. v < c) n l c (omega arith)
-    (λ h. ⊎-elim (λ q. absurd (omega (arith, leb-true c 0 q))) (λ q. ltb-true (getD l c 0) c q) (either (leb c 0) _ (all-at n _ e c h)))
-
 ends-of : (r from to : ℕ) → between r from to ≡ true → (from < r) × (to < r) × (from ≡ to → ⊥)
 unfolding between
 ends-of r from to e =
@@ -83,6 +68,16 @@ six a b d e f g h =
     let j = four a b d e (both-l (((a && b) && d) && e) f i) in
     (j .0, j .1, j .2, j .3, both-r (((a && b) && d) && e) f i, both-r ((((a && b) && d) && e) && f) g h)
 
+-- the parents of sound records fall
+pub parents-fall : (k : Records) → sound k ≡ true → falling (k .cabinets) (k .parent) ≡ true
+unfolding sound fields-sound
+parents-fall k e =
+    let a = both-r (leb (k .services) 10) _ e in
+    let b = both-r (leb 1 (k .cabinets)) _ a in
+    let d = both-r (leb (k .cabinets) 200) _ b in
+    six (amounts (k .services) (k .demand)) (falling (k .cabinets) (k .parent)) (cabinets-sound k) (amounts (k .streams) (k .load))
+    (running (k .services) (k .streams) (k .from) (k .to)) (rooted k) (both-r (leb (k .streams) 100) _ d) .1
+
 pub good : (k : Records) → sound k ≡ true → Good k
 unfolding sound fields-sound cabinets-sound rooted running
 good k e =
@@ -100,7 +95,7 @@ good k e =
       cabinets = leb-true _ _ (both-l (leb (k .cabinets) 200) _ b);
       streams = leb-true _ _ (both-l (leb (k .streams) 100) _ d);
       demands = amount-le _ _ (f .0);
-      parents = parent-lt _ _ (f .1);
+      parents = parent-lt _ _ (parents-fall k e);
       capacities = amount-le _ _ (g .0);
       prices = amount-le _ _ (g .1);
       up-capacities = amount-le _ _ (g .2);

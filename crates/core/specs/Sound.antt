@@ -1,20 +1,17 @@
 -- Records of a tree within the limits: what a sheet's reader promises of the records that it reads.
 use Prim.Native.Nat.{ℕ}
-use mathlib.Core.Bool.{Bool, _&&_, _||_, not}
+use mathlib.Core.Bool.{Bool, _&&_, not}
 use mathlib.Core.List.{List}
 use lib.Dec.{eqb, leb, ltb}
 use lib.ListN.{getD}
 use Rattle.finite.specs.Below.{all-below}
 use Rattle.sheet.specs.Limits.{max-services, max-cabinets, max-streams, max-amount}
+use Rattle.rows.specs.Cabinets.{falling}
 use Rattle.records.specs.declared.Records.{Records}
 
 -- the first n amounts are within the limit
 unfoldable pub amounts : ℕ → List ℕ → Bool
 amounts n l = all-below n (λ i. leb (getD l i 0) max-amount)
-
--- each of the first n cabinets but the root has a parent of smaller number
-unfoldable pub falling : ℕ → List ℕ → Bool
-falling n parent = all-below n (λ c. leb c 0 || ltb (getD parent c 0) c)
 
 -- a stream runs between two services below r
 unfoldable pub between : ℕ → ℕ → ℕ → Bool

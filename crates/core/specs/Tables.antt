@@ -13,13 +13,15 @@ use Rattle.subsets.specs.Inner.Encoded.{figure}
 use Rattle.subsets.specs.Inner.Masks.{full}
 use Rattle.subsets.specs.Inner.Net.{Net}
 use Rattle.subsets.specs.Inner.Rows.{row-at, choice-at}
+use Rattle.subsets.specs.Inner.Keys.{ordered}
 use Rattle.subsets.specs.Inner.Count.{weighed}
 use Rattle.subsets.specs.Inner.Back.{seat}
 use Rattle.sheet.specs.Limits.{max-services, max-streams}
 use Rattle.rows.specs.Cabinets.{parent-of, own-of, link-of}
 use Rattle.core.specs.Sound.{sound}
-use Rattle.rows.specs.Charges.{max-sets, all-sums, own-cost, link-cost}
+use Rattle.rows.specs.Charges.{all-sums, own-cost, link-cost}
 use Rattle.core.specs.Sums.{demand-in, flow-out, SumsOf}
+use Rattle.rows.specs.Keys.{base}
 use Rattle.rows.specs.Rebuilds.{entry}
 use Rattle.records.specs.declared.Records.{Records}
 use Rattle.core.specs.declared.Kept.{Kept}
@@ -40,9 +42,10 @@ netted k =
 unfoldable pub cost-entry : Records → ℕ → ℕ → ℕ
 cost-entry k p x = figure (row-at (netted k) p (k .cabinets) x)
 
--- a choice entry: the services of x that stay when c is joined to its parent; the root, which is joined to none, has 0
+-- a choice entry: the services of x that stay when c is joined to its parent, where of splits of the same cost the one with the lower key wins; the
+-- root, which is joined to none, has 0
 unfoldable pub choice-entry : Records → ℕ → ℕ → ℕ
-choice-entry k c x = only (ltb 0 c) (choice-at (netted k) c x)
+choice-entry k c x = only (ltb 0 c) (choice-at (ordered base (netted k)) c x)
 
 -- every entry of a table is that of f
 abbrev pub Entries : Records → (ℕ → ℕ → ℕ) → List ℕ → Type 0
@@ -98,13 +101,11 @@ pub record Solves (k : Records) (o o' t t' u u' : List ℕ) (a : Kept) : Type 0 
   pub tables : fitting k (length o) (length t) (length u) ≡ true → (t' ≡ replicate (entries k) 0) × (u' ≡ replicate (entries k) 0)
   pub left : fitting k (length o) (length t) (length u) ≡ false → (a ≡ Unfit) × (o' ≡ o) × (t' ≡ t) × (u' ≡ u)
 
--- a choice table of s rows, whatever it holds, to be read back for the set x on p
-pub record Readable (k : Records) (size : ℕ) (u : List ℕ) (p x : ℕ) : Type 0 where
+-- sound records, an output of r places, and a choice table of s rows, whatever it holds
+pub record Readable (k : Records) (o u : List ℕ) : Type 0 where
   pub is-sound : sound k ≡ true
-  pub sets : size ≤ max-sets
-  pub choices : k .cabinets * size ≤ length u
-  pub cabinet : p < k .cabinets
-  pub set : x < size
+  pub places : length o ≡ k .services
+  pub choices : length u ≡ entries k
 
 -- what reading back leaves: the placing that the choices name, whatever they are
 pub record ReadsBack (k : Records) (u o o' : List ℕ) : Type 0 where

@@ -1,56 +1,54 @@
-// The placing read back from a choice table, whatever it holds.
+// The placing of all services read back from a choice table, whatever it holds: its key is read, and the key's digits are the services' cabinets.
 ghost use mathlib.Core.Path.{_≡_};
-ghost use Prim.Native.Nat.{ℕ, _*_, _^_, _<_};
-ghost use lib.ListN.{length, getD};
+ghost use Prim.Native.Nat.{ℕ, _^_, _<_};
+ghost use lib.ListN.{getD};
+ghost use Rattle.subsets.specs.Inner.Masks.{full};
 ghost use Rattle.subsets.specs.Inner.Back.{seat};
+ghost use Rattle.subsets.specs.Inner.Keys.{digit, digit-in};
+ghost use Rattle.rows.specs.Keys.{base, low-digits};
 ghost use Rattle.rows.specs.Rebuilds.{entry};
 ghost use Rattle.core.specs.Tables.{netted, Readable};
-use crate::index;
 use records::Records;
-use subsets::member;
+use rows::LOW_DIGITS;
+use rows::root_key;
+use sheet::Sheet;
+use subsets::Key;
 
-// The cabinet of service i when x is placed on p and all cabinets under it: from p down, each child's entry says who stays.
-// Children are numbered above, so that the walk ends for any records.
-fn walk_down(records: Records, choices: &[u16], size: usize, p: usize, x: usize, i: usize) -> usize
-    requires { ⌜ Readable records size (now choices) p x ⌝ }
-    ensures { λ r. ⌜ r ≡ seat (netted records) (entry size (now (choices .entry))) p (records .cabinets) x i ⌝ }
+// The digit of a number with so many digits after it.
+fn digit_of(number: u64, after: usize) -> u64
+    ensures { λ d. ⌜ (d ≡ digit base number after) × (d < base) ⌝ }
 {
-    let n = records.cabinets;
-    let mut here = p;
-    let mut set = x;
-    let mut c = n;
-    while here + 1 < c {
-        c -= 1;
-        if index(records.parent[c]) == here {
-            let stays = index(choices[c * size + set]) & set;
-            if member(stays, i) {
-                set = stays;
-            } else {
-                here = c;
-                set = set - stays;
-                c = n;
-            }
-        }
+    let mut rest = number;
+    let mut i = 0;
+    while i < after {
+        rest = rest / Sheet::MAX_CABINETS as u64;
+        i += 1;
     }
-    here
+    rest % Sheet::MAX_CABINETS as u64
 }
 
-// The placing of x on p and all cabinets under it, one place a service.
-pub(crate) fn read_places(
-    output: &mut [u16],
-    records: Records,
-    choices: &[u16],
-    size: usize,
-    p: usize,
-    x: usize,
-)
-    requires { ⌜ Readable records size (now choices) p x ⌝ }
-    ensures { λ u. ⌜ ((i : ℕ) → i < length (now (output .entry)) →
-        getD (now (output .exit)) i 0 ≡ seat (netted records) (entry size (now (choices .entry))) p (records .cabinets) x i) ⌝ }
+// The digit of a key with so many digits after it: the last digits are in its low part.
+fn place_in(key: Key, after: usize) -> u64
+    ensures { λ d. ⌜ (d ≡ digit-in base low-digits key after) × (d < base) ⌝ }
 {
+    if after < LOW_DIGITS {
+        digit_of(key.low, after)
+    } else {
+        digit_of(key.high, after - LOW_DIGITS)
+    }
+}
+
+// The placing of all services on the whole tree, one place a service: the digits of its key, in the order of the services.
+pub(crate) fn read_places(output: &mut [u16], records: Records, choices: &[u16])
+    requires { ⌜ Readable records (now output) (now choices) ⌝ }
+    ensures { λ u. ⌜ ((i : ℕ) → i < records .services → getD (now (output .exit)) i 0
+        ≡ seat (netted records) (entry (2 ^ records .services) (now (choices .entry))) 0 (records .cabinets) (full (records .services)) i) ⌝ }
+{
+    let key = root_key(records, choices);
+    let r = output.len();
     let mut i = 0;
-    while i < output.len() {
-        output[i] = walk_down(records, choices, size, p, x, i) as u16;
+    while i < r {
+        output[i] = place_in(key, r - 1 - i) as u16;
         i += 1;
     }
 }

@@ -96,7 +96,7 @@ fn keep_fitting(
     if subsets::LIMIT < cost {
         return Kept::NoPlan { count: count };
     }
-    read_places(output, records, &choices[..], size, 0, all);
+    read_places(output, records, &choices[..]);
     Kept::Plan {
         cost: cost,
         count: count,
@@ -143,7 +143,6 @@ pub fn read_back(records: Records, output: &mut [u16], choices: &[u16])
 {
     let entries = choices.len();
     if fits(records, output.len(), entries, entries) {
-        let size = sets_of(records.services);
-        read_places(output, records, choices, size, 0, size - 1);
+        read_places(output, records, choices);
     }
 }

@@ -3,6 +3,7 @@ ghost use mathlib.Core.Path.{_≡_};
 ghost use Prim.Native.Nat.{_≤_};
 ghost use lib.ListN.{length};
 ghost use Rattle.sheet.specs.Limits.{max-services, max-cabinets, max-streams};
+ghost use Rattle.rows.specs.Cabinets as cabinets;
 ghost use Rattle.core.specs.Sound as sounds;
 use crate::index;
 use records::Records;
@@ -29,7 +30,7 @@ fn amounts(l: &[u16], n: usize) -> bool
 // Whether each of the first n cabinets but the root has a parent of smaller number.
 fn falling(parent: &[u16; Sheet::MAX_CABINETS], n: usize) -> bool
     requires { ⌜ (1 ≤ n) × (n ≤ max-cabinets) ⌝ }
-    ensures { λ b. ⌜ b ≡ sounds.falling n (now (parent .entry)) ⌝ }
+    ensures { λ b. ⌜ b ≡ cabinets.falling n (now (parent .entry)) ⌝ }
 {
     let mut c = 1;
     while c < n {

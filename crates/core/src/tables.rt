@@ -1,31 +1,9 @@
-// Both tables filled, row by row, and cleared.
+// Both tables filled and cleared.
 ghost use mathlib.Core.Path.{_≡_};
-ghost use Prim.Native.Nat.{ℕ, _^_, _<_};
 ghost use lib.ListN.{length, replicate};
-ghost use Rattle.rows.specs.Rebuilds.{entry};
-ghost use Rattle.core.specs.Sums.{SumsOf};
 ghost use Rattle.core.specs.Tables.{Ready, Filled};
 use crate::sums::sums_below;
 use records::Records;
-use rows::SETS;
-
-// Rebuilds all rows, from the last cabinet to the first. Gives the splits counted.
-fn fill_rows(costs: &mut [u64], choices: &mut [u16], records: Records, sums: &[u32]) -> u64
-    requires ready { ⌜ Ready records (2 ^ records .services) (now costs) (now choices) ⌝ }
-    requires sums { ⌜ SumsOf records (2 ^ records .services) (now sums) ⌝ }
-    requires root { ⌜ ((x : ℕ) → x < 2 ^ records .services → entry (2 ^ records .services) (now choices) 0 x ≡ 0) ⌝ }
-    ensures { λ n. ⌜ Filled records (now (costs .exit)) (now (choices .exit)) n ⌝ }
-{
-    let mut child = [0u64; SETS];
-    let mut link = [0u64; SETS];
-    let mut count: u64 = 0;
-    let mut p = records.cabinets;
-    while 0 < p {
-        p -= 1;
-        count += rows::rebuild(costs, choices, &mut child, &mut link, records, sums, p);
-    }
-    count
-}
 
 // Fills both tables. Gives the splits counted.
 pub(crate) fn fill(costs: &mut [u64], choices: &mut [u16], records: Records, size: usize) -> u64
@@ -34,7 +12,7 @@ pub(crate) fn fill(costs: &mut [u64], choices: &mut [u16], records: Records, siz
 {
     let sums = sums_below(records, size);
     clear_choices(&mut choices[..size]);
-    fill_rows(costs, choices, records, &sums.of)
+    rows::fill(costs, choices, records, &sums.of)
 }
 
 // Clears a cost table.

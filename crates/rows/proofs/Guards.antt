@@ -1,82 +1,128 @@
--- The tests at the head of `rebuild`, and what they give.
-use Prim.Native.Nat.{ℕ, _*_, _^_, _≤_, _<_}
+-- The tests at the heads of `fill` and `root_key`, and what they give.
+use Prim.Native.Nat.{ℕ, _-_, _*_, _^_, _≤_, _<_}
 use native.Mathlib.Omega.{arith}
-use native.Mathlib.Nat.{pow-le-pow-right}
+use mathlib.Core.Logic.{⊎-elim}
 use mathlib.Core.Path.{_≡_, refl, sym, _∙_, subst}
-use mathlib.Core.Bool.{true}
+use mathlib.Core.Bool.{Bool, true, false}
 use mathlib.Core.List.{List}
 use lib.Dec.{leb, ltb}
-use lib.ListN.{length}
-use borrow.Author.Tests.{le-leb, leb-true, lt-ltb, ltb-true}
-use Rattle.finite.proofs.Booleans.{clash, both, both-l, both-r}
+use lib.ListN.{length, getD}
+use lib.Pow.{pow-pos}
+use borrow.Author.Tests.{leb-true, ltb-true}
+use Rattle.finite.specs.Below.{only}
+use Rattle.finite.proofs.Booleans.{clash, both-l, both-r, either}
+use Rattle.finite.proofs.Tests.{all-at}
+use Rattle.subsets.specs.Inner.Keys.{key-parts}
+use Rattle.subsets.specs.declared.Key.{Key}
 use Rattle.sheet.specs.Limits.{max-services, max-cabinets}
 use Rattle.records.specs.declared.Records.{Records}
-use Rattle.rows.specs.Charges.{max-sets, all-sums}
-use Rattle.rows.specs.Rebuilds.{source, Rebuilds, RebuildRoom, Scratch, roomy, has-rows, rebuildable, RebuildsRow}
+use Rattle.rows.specs.Cabinets as cabinets
+use Rattle.rows.specs.Cabinets.{field, falling}
+use Rattle.rows.specs.Charges.{all-sums}
+use Rattle.rows.specs.Keys.{base, low-digits, tree}
+use Rattle.rows.specs.Reads.{ListsOf, Weighted, Readable, Started}
+use Rattle.rows.specs.Rebuilds as rebuilds
+use Rattle.rows.specs.Rebuilds.{entry, has-rows, FillRoom, Fills, FillsRows, fillable, readable, RootKey}
+use Rattle.rows.proofs.Rebuilding.{field-at}
 
--- 2^r is at most the number of all sets
-pub sets-le : (r : ℕ) → r ≤ max-services → 2 ^ r ≤ max-sets
-sets-le r h = pow-le-pow-right {n = 2} (omega arith) h
+-- what holds of 0 and of the first n fields holds of every field
+pub field-all : (P : ℕ → Type 0) (n : ℕ) (l : List ℕ) (i : ℕ) → P 0 → (i < n → P (getD l i 0)) → P (field n l i)
+unfolding only
+field-all P n l i z h = go (ltb i n) refl
+  where
+    go : (t : Bool) → ltb i n ≡ t → P (only t (getD l i 0))
+    go true e = h (ltb-true i n e)
+    go false e = z
 
--- room on the way for rows of up to all sets
-pub scratch : (size : ℕ) (child link sums : List ℕ) → size ≤ max-sets → roomy (length child) (length link) (length sums) ≡ true → Scratch size child link sums
-unfolding roomy
-scratch size child link sums h e =
-    let a = leb-true max-sets (length child) (both-l (leb max-sets (length child)) _ e) in
-    let r = both-r (leb max-sets (length child)) _ e in
-    let b = leb-true max-sets (length link) (both-l (leb max-sets (length link)) _ r) in
-    record { for-child = omega arith; for-link = omega arith; for-sums = leb-true all-sums (length sums) (both-r (leb max-sets (length link)) _ r) }
+-- parents that fall are those of a tree
+pub parent-lt : (n : ℕ) (l : List ℕ) → falling n l ≡ true → (c : ℕ) → 0 < c → field n l c < c
+unfolding cabinets.falling
+parent-lt n l e c z =
+    field-all (λ v. v < c) n l c (omega arith)
+    (λ h. ⊎-elim (λ q. absurd (omega (arith, leb-true c 0 q))) (λ q. ltb-true (getD l c 0) c q) (either (leb c 0) _ (all-at n _ e c h)))
 
-module _ (k : Records) (p : ℕ) (sums child link t u : List ℕ) where
-  -- all tests
-  pub record Passed (size : ℕ) : Type 0 where
-    pub services : k .services ≤ max-services
-    pub cabinets : k .cabinets ≤ max-cabinets
-    pub cabinet : p < k .cabinets
-    pub costs : k .cabinets * size ≤ length t
-    pub choices : k .cabinets * size ≤ length u
-    pub room : roomy (length child) (length link) (length sums) ≡ true
+-- the counts, the sums and the tables
+pub record Passed (r s sums costs choices : ℕ) : Type 0 where
+  pub services : r ≤ max-services
+  pub cabinets : s ≤ max-cabinets
+  pub for-sums : all-sums ≤ sums
+  pub for-costs : s * 2 ^ r ≤ costs
+  pub for-choices : s * 2 ^ r ≤ choices
 
-  pub passed : rebuildable k p sums child link t u ≡ true → Passed (2 ^ k .services)
-  unfolding has-rows
-  passed w =
-      let e = both-l (has-rows (k .services) (k .cabinets) p (length t) (length u)) _ w in
-      let a = both-r (leb (k .services) max-services) _ e in
-      let b = both-r (leb (k .cabinets) max-cabinets) _ a in
-      let d = both-r (ltb p (k .cabinets)) _ b in
-      let f = both-r (leb (k .cabinets * 2 ^ k .services) (length t)) _ d in
-      record {
-        services = leb-true _ _ (both-l (leb (k .services) max-services) _ e);
-        cabinets = leb-true _ _ (both-l (leb (k .cabinets) max-cabinets) _ a);
-        cabinet = ltb-true _ _ (both-l (ltb p (k .cabinets)) _ b);
-        costs = leb-true _ _ (both-l (leb (k .cabinets * 2 ^ k .services) (length t)) _ d);
-        choices = leb-true _ _ f;
-        room = both-r (has-rows (k .services) (k .cabinets) p (length t) (length u)) _ w;
-      }
+pub passed : (r s sums costs choices : ℕ) → has-rows r s sums costs choices ≡ true → Passed r s sums costs choices
+unfolding has-rows
+passed r s sums costs choices e =
+    let a = both-r (leb r max-services) _ e in
+    let b = both-r (leb s max-cabinets) _ a in
+    let d = both-r (leb all-sums sums) _ b in
+    record {
+      services = leb-true _ _ (both-l (leb r max-services) _ e);
+      cabinets = leb-true _ _ (both-l (leb s max-cabinets) _ a);
+      for-sums = leb-true _ _ (both-l (leb all-sums sums) _ b);
+      for-costs = leb-true _ _ (both-l (leb (s * 2 ^ r) costs) _ d);
+      for-choices = leb-true _ _ (both-r (leb (s * 2 ^ r) costs) _ d);
+    }
 
-  pub passes : Passed (2 ^ k .services) → rebuildable k p sums child link t u ≡ true
-  unfolding has-rows
-  passes P =
-      both (has-rows (k .services) (k .cabinets) p (length t) (length u)) _
-      (both (leb (k .services) max-services) _ (le-leb _ _ (P .services))
-      (both (leb (k .cabinets) max-cabinets) _ (le-leb _ _ (P .cabinets))
-      (both (ltb p (k .cabinets)) _ (lt-ltb _ _ (P .cabinet))
-      (both (leb (k .cabinets * 2 ^ k .services) (length t)) _ (le-leb _ _ (P .costs)) (le-leb _ _ (P .choices))))))
-      (P .room)
-
-  -- room in the tables
-  pub in-tables : {size : ℕ} → size ≡ 2 ^ k .services → Passed size → RebuildRoom k size p t u
-  in-tables e P =
-      record { sets = omega (arith, e, sets-le (k .services) (P .services)); cabinet = P .cabinet; cabinets = P .cabinets; costs = P .costs; choices = P .choices }
-
+module _ (k : Records) (sums t u : List ℕ) where
   -- a test failed
-  pub left-alone : (rebuildable k p sums child link t u ≡ true → ⊥) → RebuildsRow k p sums child link t t u u 0
+  pub left-alone : (fillable k (length sums) (length t) (length u) ≡ true → ⊥) → FillsRows k sums t t u u 0
   left-alone n = record { done = λ e. absurd (n e); left = λ e. (refl, refl, refl) }
 
   -- none failed
-  pub rebuilt : {size : ℕ} {t₁ u₁ : List ℕ} {m : ℕ} → size ≡ 2 ^ k .services → Passed size
-      → Rebuilds (source k size p sums t) size p (k .cabinets) t t₁ u u₁ m → RebuildsRow k p sums child link t t₁ u u₁ m
-  rebuilt {size} {t₁} {u₁} {m} e P R = record {
-    done = λ q. subst (λ (z : ℕ). Rebuilds (source k z p sums t) z p (k .cabinets) t t₁ u u₁ m) e R;
-    left = λ q. clash (sym (passes (subst Passed e P)) ∙ q);
+  pub filled : {size : ℕ} {t₁ u₁ : List ℕ} {m : ℕ} → size ≡ 2 ^ k .services → fillable k (length sums) (length t) (length u) ≡ true
+      → Fills k size sums t t₁ u u₁ m → FillsRows k sums t t₁ u u₁ m
+  filled {size} {t₁} {u₁} {m} e w F =
+      record { done = λ q. subst (λ (z : ℕ). Fills k z sums t t₁ u u₁ m) e F; left = λ q. clash (sym w ∙ q) }
+
+  -- all that filling asks for
+  pub in-room : {size : ℕ} {last prior : List ℕ} {is-tree : Bool} → size ≡ 2 ^ k .services → Passed (k .services) (k .cabinets) (length sums) (length t) (length u)
+      → ListsOf (k .cabinets) (k .parent) last prior is-tree → is-tree ≡ true → FillRoom k size t u sums last prior
+  in-room {size} {last} {prior} {is-tree} e P L q = record {
+    services = P .services;
+    cabinets = P .cabinets;
+    row-size = e;
+    costs = subst (λ (z : ℕ). k .cabinets * z ≤ length t) (sym e) (P .for-costs);
+    choices = subst (λ (z : ℕ). k .cabinets * z ≤ length u) (sym e) (P .for-choices);
+    all-there = P .for-sums;
+    falls = parent-lt (k .cabinets) (k .parent) (sym (L .tested) ∙ q);
+    links = L .linked q (tree k) refl (λ c z l. sym (field-at (k .cabinets) (k .parent) c l));
+  }
+
+module _ (k : Records) (u : List ℕ) where
+  -- a test failed, so that no key is read
+  pub no-key : (readable k (length u) ≡ true → ⊥) → RootKey k u (record { high = 0; low = 0 })
+  no-key n = record { done = λ e. absurd (n e); left = λ e. refl }
+
+  -- none failed
+  pub root-keyed : {size : ℕ} {a : Key} → size ≡ 2 ^ k .services → readable k (length u) ≡ true
+      → a ≡ key-parts base low-digits (tree k) (entry size u) 0 (k .cabinets) (size - 1) → RootKey k u a
+  unfolding rebuilds.back-key
+  root-keyed {size} {a} e w h = record {
+    done = λ q. subst (λ (z : ℕ). a ≡ key-parts base low-digits (tree k) (entry z u) 0 (k .cabinets) (z - 1)) e h;
+    left = λ q. clash (sym w ∙ q);
+  }
+
+  -- all that reading back asks for
+  pub root-readable : {size : ℕ} {last prior weights : List ℕ} {is-tree : Bool} → size ≡ 2 ^ k .services
+      → Passed (k .services) (k .cabinets) all-sums (length u) (length u) → ListsOf (k .cabinets) (k .parent) last prior is-tree → is-tree ≡ true
+      → Weighted (k .services) size weights → 2 * size ≤ length weights → Readable (tree k) size u last prior weights
+  root-readable {size} e P L q W n = record {
+    falls = parent-lt (k .cabinets) (k .parent) (sym (L .tested) ∙ q);
+    nodes = P .cabinets;
+    services = P .services;
+    row-size = e;
+    choices = subst (λ (z : ℕ). k .cabinets * z ≤ length u) (sym e) (P .for-choices);
+    links = L .linked q (tree k) refl (λ c z l. sym (field-at (k .cabinets) (k .parent) c l));
+    weighted = W;
+    weights-length = n;
+  }
+
+  -- the walk starts at the root, its last child and all services
+  pub root-started : {size c : ℕ} {last prior weights : List ℕ} → 1 ≤ k .cabinets → c ≡ getD last 0 0
+      → Readable (tree k) size u last prior weights → Started (tree k) size (k .cabinets) 0 c (size - 1)
+  root-started {size} z e R = record {
+    node = z;
+    inside = omega arith;
+    first = e ∙ R .links .lasts 0 z;
+    set = omega (arith, R .row-size, pow-pos (k .services));
   }

@@ -1,9 +1,10 @@
 -- The records of cabinets as they stand in arrays.
 use Prim.Native.Nat.{ℕ}
+use mathlib.Core.Bool.{Bool, _||_}
 use mathlib.Core.List.{List}
-use lib.Dec.{ltb}
+use lib.Dec.{leb, ltb}
 use lib.ListN.{getD}
-use Rattle.finite.specs.Below.{only}
+use Rattle.finite.specs.Below.{only, all-below}
 use Rattle.rows.specs.declared.Own.{Own}
 use Rattle.rows.specs.declared.Link.{Link}
 use Rattle.records.specs.declared.Records.{Records}
@@ -48,3 +49,7 @@ link-of k c =
       «down_capacity» = field (k .cabinets) (k .«down_capacity») c;
       «down_price» = field (k .cabinets) (k .«down_price») c;
     }
+
+-- each of the first n cabinets but the root has a parent of smaller number
+unfoldable pub falling : ℕ → List ℕ → Bool
+falling n parent = all-below n (λ c. leb c 0 || ltb (getD parent c 0) c)

@@ -1,5 +1,7 @@
--- One row of the tables rebuilt, whatever the tables hold.
+-- Rows of the tables rebuilt, whatever the tables hold.
 pub mod Cabinets
 pub mod Charges
+pub mod Keys
+pub mod Reads
 pub mod Joins
 pub mod Rebuilds

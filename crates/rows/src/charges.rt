@@ -8,7 +8,7 @@ use crate::Own;
 use crate::SETS;
 use subsets::NONE;
 
-fn wide(x: u32) -> u64
+pub(crate) fn wide(x: u32) -> u64
     ensures { λ r. ⌜ (r ≡ x) × (r < 4294967296) ⌝ }
 {
     x as u64

@@ -1,17 +1,27 @@
-// One row of the planner's two tables rebuilt: its own charges, then its children joined. For any records and tables.
+// The rows of the planner's two tables rebuilt: each its own charges, then its children joined. For any records and tables.
 ghost use mathlib.Core.Path.{_≡_};
-ghost use Prim.Native.Nat.{_^_, _≤_, _<_};
+ghost use Prim.Native.Nat.{_%_, _^_, _≤_, _<_};
 ghost use Rattle.sheet.specs.Limits.{max-services, max-cabinets};
 ghost use Rattle.rows.specs.Cabinets.{own-in, link-in};
-ghost use Rattle.rows.specs.Rebuilds.{roomy, has-rows, RebuildsRow};
+ghost use Rattle.rows.specs.Keys.{tree};
+ghost use Rattle.rows.specs.Reads.{Readable};
+ghost use Rattle.rows.specs.Rebuilds.{source, has-rows, RebuildRoom, Scratch, Kept, Rebuilds, FillRoom, Fills, FillsRows, RootKey};
 use records::Records;
 use sheet::Sheet;
+use subsets::Key;
 
 mod charges; // charges.rt: what a cabinet and a link charge for every set of services
+mod children; // children.rt: the children of each cabinet as lists
 mod joins; // joins.rt: a child's row joined into its parent's
+mod keys; // keys.rt: keys of placings, by which ties are settled
 mod tables; // tables.rt: one row of both tables
 
 use charges::fill_own;
+use children::children_of;
+use keys::own_keys;
+use keys::read_key;
+use keys::weights_of;
+use tables::fetch_keys;
 use tables::join_child;
 
 // How many sets of services there can be.
@@ -19,6 +29,12 @@ pub const SETS: usize = 1 << Sheet::MAX_SERVICES;
 
 // Rows of sums over sets: the demand, what runs out, what runs in. A row takes SETS places.
 pub const SUMS: usize = 3 * SETS;
+
+// So many digits are the low part of a key.
+pub const LOW_DIGITS: usize = Sheet::MAX_SERVICES / 2;
+
+// Places for rows of keys, two places a set: so many rows of 2^r sets are kept as fit.
+const KEYS: usize = 4 * SETS;
 
 // What a cabinet itself lets in, and at what price; the services barred from it are a set.
 struct Own {
@@ -86,22 +102,9 @@ fn sets_of(r: usize) -> usize
     1 << r
 }
 
-// Whether there is room on the way: a row for the child, one for its link's charges, and the sums of all sets.
-fn is_roomy(child: usize, link: usize, sums: usize) -> bool
-    ensures { λ b. ⌜ b ≡ roomy child link sums ⌝ }
-{
-    if child < SETS {
-        return false;
-    }
-    if link < SETS {
-        return false;
-    }
-    SUMS <= sums
-}
-
-// Whether the counts are within the arrays, p is a cabinet, and tables of so many entries have a row for each cabinet.
-fn are_rows(services: usize, cabinets: usize, p: usize, costs: usize, choices: usize) -> bool
-    ensures { λ b. ⌜ b ≡ has-rows services cabinets p costs choices ⌝ }
+// Whether the counts are within the arrays, and sums and tables of so many entries have all that is needed.
+fn are_rows(services: usize, cabinets: usize, sums: usize, costs: usize, choices: usize) -> bool
+    ensures { λ b. ⌜ b ≡ has-rows services cabinets sums costs choices ⌝ }
 {
     if Sheet::MAX_SERVICES < services {
         return false;
@@ -109,7 +112,7 @@ fn are_rows(services: usize, cabinets: usize, p: usize, costs: usize, choices: u
     if Sheet::MAX_CABINETS < cabinets {
         return false;
     }
-    if cabinets <= p {
+    if sums < SUMS {
         return false;
     }
     let entries = cabinets * sets_of(services);
@@ -119,30 +122,40 @@ fn are_rows(services: usize, cabinets: usize, p: usize, costs: usize, choices: u
     entries <= choices
 }
 
-// Rebuilds the row of p: its own charges, then its children joined, in rising order. Gives the splits counted. `child` and `link` are room on the way.
-pub fn rebuild(
+// Rebuilds the row of p: its own charges, then its children joined, in rising order. Gives the splits counted. `child`, `link` and `child_keys`
+// are room on the way; `keys` has the keys of the rows built before, so many rows of them, and gets those of p.
+fn rebuild<'a>(
     costs: &mut [u64],
     choices: &mut [u16],
+    keys: &mut [u64],
     child: &mut [u64],
     link: &mut [u64],
+    child_keys: &mut [u64],
     records: Records,
-    sums: &[u32],
+    sums: &'a [u32],
+    weights: &'a [u32],
+    last: &'a [u16; Sheet::MAX_CABINETS],
+    prior: &'a [u16; Sheet::MAX_CABINETS],
+    size: usize,
+    rows: usize,
     p: usize,
 ) -> u64
-    ensures { λ n. ⌜ RebuildsRow records p (now (sums .entry)) (now (child .entry)) (now (link .entry)) (now (costs .entry)) (now (costs .exit)) (now (choices .entry)) (now (choices .exit)) n ⌝ }
+    requires room { ⌜ RebuildRoom records size p (now costs) (now choices) ⌝ }
+    requires scratch { ⌜ Scratch size (now child) (now link) (now «child_keys») (now sums) ⌝ }
+    requires readable { ⌜ Readable (tree records) size (now choices) (now last) (now prior) (now weights) ⌝ }
+    requires kept { ⌜ Kept records size p rows (now choices) (now keys) ⌝ }
+    ensures { λ n. ⌜ Rebuilds (source records size p (now (sums .entry)) (now (costs .entry)) (now (choices .entry))) size p (p % rows) (records .cabinets)
+        (now (costs .entry)) (now (costs .exit)) (now (choices .entry)) (now (choices .exit)) (now (keys .entry)) (now (keys .exit)) n ⌝ }
 {
     let n = records.cabinets;
-    if !are_rows(records.services, n, p, costs.len(), choices.len()) {
-        return 0;
-    }
-    if !is_roomy(child.len(), link.len(), sums.len()) {
-        return 0;
-    }
-    let size = sets_of(records.services);
     let own = own_at(&records.capacity, &records.price, &records.barred, p);
     let at = p * size;
     let end = at + size;
     fill_own(&mut costs[at..end], sums, own);
+    let q = p % rows;
+    let first = q * (2 * size);
+    let first_end = first + 2 * size;
+    own_keys(&mut keys[first..first_end], weights, p);
     let mut count: u64 = 0;
     let mut c = p + 1;
     while c < n {
@@ -158,7 +171,130 @@ pub fn rebuild(
             &records.down_price,
             d,
         );
-        count += join_child(costs, choices, child, link, k, sums, p, d, size);
+        fetch_keys(
+            child_keys,
+            &keys[..],
+            &choices[..],
+            last,
+            prior,
+            weights,
+            size,
+            rows,
+            p,
+            d,
+        );
+        count += join_child(
+            costs,
+            choices,
+            keys,
+            child,
+            link,
+            &child_keys[..],
+            k,
+            sums,
+            p,
+            d,
+            q,
+            size,
+        );
     }
     count
+}
+
+// Rebuilds all rows, from the last cabinet to the first. Gives the splits counted.
+fn fill_rows<'a>(
+    costs: &mut [u64],
+    choices: &mut [u16],
+    records: Records,
+    sums: &'a [u32],
+    last: &'a [u16; Sheet::MAX_CABINETS],
+    prior: &'a [u16; Sheet::MAX_CABINETS],
+    size: usize,
+) -> u64
+    requires { ⌜ FillRoom records size (now costs) (now choices) (now sums) (now last) (now prior) ⌝ }
+    ensures { λ n. ⌜ Fills records size (now (sums .entry)) (now (costs .entry)) (now (costs .exit)) (now (choices .entry)) (now (choices .exit)) n ⌝ }
+{
+    let weights = weights_of(records.services, size);
+    let rows = 2 * SETS / size;
+    let mut keys = [0u64; KEYS];
+    let mut child = [0u64; SETS];
+    let mut link = [0u64; SETS];
+    let mut child_keys = [0u64; 2 * SETS];
+    let mut count: u64 = 0;
+    let mut p = records.cabinets;
+    while 0 < p {
+        p -= 1;
+        count += rebuild(
+            costs,
+            choices,
+            &mut keys,
+            &mut child,
+            &mut link,
+            &mut child_keys,
+            records,
+            sums,
+            &weights.of,
+            last,
+            prior,
+            size,
+            rows,
+            p,
+        );
+    }
+    count
+}
+
+// Fills both tables, a row a cabinet. Gives the splits counted.
+pub fn fill(costs: &mut [u64], choices: &mut [u16], records: Records, sums: &[u32]) -> u64
+    ensures { λ n. ⌜ FillsRows records (now (sums .entry)) (now (costs .entry)) (now (costs .exit)) (now (choices .entry)) (now (choices .exit)) n ⌝ }
+{
+    let n = records.cabinets;
+    if !are_rows(records.services, n, sums.len(), costs.len(), choices.len()) {
+        return 0;
+    }
+    let children = children_of(&records.parent, n);
+    if !children.is_tree {
+        return 0;
+    }
+    let size = sets_of(records.services);
+    fill_rows(
+        costs,
+        choices,
+        records,
+        sums,
+        &children.last,
+        &children.prior,
+        size,
+    )
+}
+
+// The key of the placing of all services on the whole tree, as the choices name it. Gives 0 where there is no tree or no room.
+pub fn root_key(records: Records, choices: &[u16]) -> Key
+    ensures { λ key. ⌜ RootKey records (now (choices .entry)) key ⌝ }
+{
+    let n = records.cabinets;
+    let entries = choices.len();
+    if n < 1 {
+        return Key { high: 0, low: 0 };
+    }
+    if !are_rows(records.services, n, SUMS, entries, entries) {
+        return Key { high: 0, low: 0 };
+    }
+    let children = children_of(&records.parent, n);
+    if !children.is_tree {
+        return Key { high: 0, low: 0 };
+    }
+    let size = sets_of(records.services);
+    let weights = weights_of(records.services, size);
+    let child = index(children.last[0]);
+    read_key(
+        choices,
+        &children.last,
+        &children.prior,
+        &weights.of,
+        size,
+        0,
+        child,
+        size - 1,
+    )
 }

@@ -3,11 +3,9 @@ use Prim.Native.Nat.{ℕ, _-_, _*_, _^_, _<_}
 use native.Mathlib.Omega.{arith}
 use mathlib.Core.Path.{_≡_, refl, sym, ap, _∙_, subst}
 use borrow.Author.Needs.{needs}
-use lib.ListN.{length, getD, set}
+use lib.ListN.{length, getD}
 use lib.Pow.{pow-pos}
 use Rattle.subsets.specs.Figures.{limit}
-use Rattle.subsets.specs.Inner.Back.{seat}
-use Rattle.rows.specs.Rebuilds.{entry}
 use Rattle.core.specs.Tables.{netted, decided, least}
 use Rattle.core.specs.declared.Kept.the-variants.{Plan}
 use Rattle.subsets.specs.Inner.Count.{weighed}
@@ -26,9 +24,6 @@ start-before-fill-arg2 c = c .before .before .before .before .before .before
 
 abbrev fill-before-read-places-arg2 : tie.After-read-places-arg2 → tie.After-fill
 fill-before-read-places-arg2 c = c .before .before .before .before .before .before .before .before
-
-abbrev sets-of-before-read-places-arg2 : tie.After-read-places-arg2 → tie.After-sets-of
-sets-of-before-read-places-arg2 c = c .before .before .before .before .before .before .before .before .before .before .before
 
 abbrev start-before-read-places-arg2 : tie.After-read-places-arg2 → tie.Start
 start-before-read-places-arg2 c = c .before .before .before .before .before .before .before .before .before .before .before .before .before .before .before
@@ -125,15 +120,8 @@ returns c =
 
 read-places-requires : tie.Need-read-places-requires
 read-places-requires c κs =
-    let k = start-before-read-places-arg2 c .args .records in
-    let e : sets-of-before-read-places-arg2 c .sets-of .result ≡ 2 ^ k .services = sets-of-before-read-places-arg2 c .sets-of .ensures in
-    record {
-      is-sound = fitted (start-before-read-places-arg2 c) .is-sound;
-      sets = omega (arith, e, sets-le _ (sounds (start-before-read-places-arg2 c)));
-      choices = omega (arith, fill-before-read-places-arg2 c .fill .kept .1 .0, fitted (start-before-read-places-arg2 c) .choices-size, ap (λ (n : ℕ). k .cabinets * n) e);
-      cabinet = sounds (start-before-read-places-arg2 c) .some-cabinet;
-      set = omega (arith, e, pow-pos (k .services));
-    }
+    let F = fitted (start-before-read-places-arg2 c) in
+    record { is-sound = F .is-sound; places = F .output-size; choices = fill-before-read-places-arg2 c .fill .kept .1 .0 ∙ F .choices-size }
 
 same-length-3 : tie.Need-same-length-3
 same-length-3 c = search needs
@@ -155,8 +143,7 @@ returns-2 c =
     let s : v ≡ getD t (2 ^ k .services - 1) 0 = ap (λ (n : ℕ). getD t (n - 1) 0) e in (
       subst (λ (m : ℕ). Plan m (fill-before-slice-known7 c .fill .result) ≡ decided (least k) (weighed (netted k))) (sym s) (some-plan k G _ _ _ F (omega (arith, s, else1-before-slice-known7 c .if1 .left))),
       (
-        λ i l. read-places-before-slice-known7 c .read-places .ensures i (omega (arith, fitted (start-before-slice-known7 c) .output-size))
-            ∙ ap (λ (n : ℕ). seat (netted k) (entry n (fill-before-slice-known7 c .fill .last .1 .0)) 0 (k .cabinets) (n - 1) i) e
+        λ i l. read-places-before-slice-known7 c .read-places .ensures i l
             ∙ same-places k G _ _ _ F (2 ^ k .services - 1) i (omega (arith, pow-pos (k .services))),
         filled k G _ _ _ F,
       ),

@@ -1,43 +1,45 @@
 -- `read_places` meets its contract.
 use Prim.Native.Nat.{ℕ, _-_, _≤_, _<_}
 use native.Mathlib.Omega.{arith}
-use mathlib.Core.Path.{_≡_}
+use mathlib.Core.Path.{_≡_, refl, ap, _∙_}
 use borrow.Author.Needs.{needs}
 use lib.ListN.{length, getD, length-set}
-use Rattle.subsets.specs.Inner.Back.{seat}
-use Rattle.subsets.proofs.Back.{seat-below}
-use Rattle.rows.specs.Rebuilds.{entry}
-use Rattle.core.specs.Tables.{netted}
+use Rattle.subsets.specs.Inner.Keys.{digit-in}
+use Rattle.rows.specs.Keys.{base, low-digits}
 use Rattle.core.proofs.Written.{next-written}
-use Rattle.core.proofs.Sounding.{good, falls}
+use Rattle.core.proofs.Placing.{root-digit}
 use Rattle.core.proofs.back.read_places.Statement.{statement}
 use Rattle.core.proofs.back.read_places.Tie as tie
 
 abbrev Inv-loop : tie.InvT-loop
-Inv-loop output₀ records choices size p x i₀ output i = (i ≤ length output₀) × (length output ≡ length output₀) × ((d : ℕ) → d < i → getD output d 0 ≡ seat (netted records) (entry size choices) p (records .cabinets) x d)
+Inv-loop output₀ choices key r i₀ output i = (i ≤ r) × (length output ≡ length output₀) × ((d : ℕ) → d < i → getD output d 0 ≡ digit-in base low-digits key (r - 1 - d))
 
 abbrev μ-loop : tie.MeasureT-loop
-μ-loop output₀ records choices size p x i₀ output i = length output₀ - i
+μ-loop output₀ choices key r i₀ output i = r - i
+
+root-key-requires : tie.Need-root-key-requires Inv-loop μ-loop
+root-key-requires c κs = search needs
 
 loop-holds : tie.Need-loop-holds Inv-loop μ-loop
-loop-holds c = (search needs, search needs, λ d l. absurd (omega arith))
+loop-holds c = (omega arith, refl, λ d l. absurd (omega arith))
 
-walk-down-requires : tie.Need-walk-down-requires Inv-loop μ-loop
-walk-down-requires c κs = c .before .before .before .before .pre
+sub-place-in : tie.Need-sub-place-in Inv-loop μ-loop
+sub-place-in c = search needs
+
+sub-place-in-2 : tie.Need-sub-place-in-2 Inv-loop μ-loop
+sub-place-in-2 c = search needs
+
+place-in-requires : tie.Need-place-in-requires Inv-loop μ-loop
+place-in-requires c κs = search needs
 
 cast-output : tie.Need-cast-output Inv-loop μ-loop
-cast-output c =
-    let a = c .before .before .before .before .before .args in
-    let P = c .before .before .before .before .before .pre in
-    let G = good _ (P .is-sound) in
-    let low : c .walk-down .result < a .records .cabinets = rw (c .walk-down .ensures) (seat-below (netted (a .records)) (entry (a .size) (a .choices .now)) (falls (a .records) G) (a .p) (a .records .cabinets) (a .x) (c .before .before .loop .i) (P .cabinet) (omega arith)) in
-    omega (arith, low, G .cabinets)
+cast-output c = omega (arith, c .place-in .ensures .1)
 
 mul-output : tie.Need-mul-output Inv-loop μ-loop
 mul-output c = search needs
 
 slice-write-output : tie.Need-slice-write-output Inv-loop μ-loop
-slice-write-output c = search needs
+slice-write-output c = omega (arith, c .before .before .loop .inv .1)
 
 add-i : tie.Need-add-i Inv-loop μ-loop
 add-i c = search needs
@@ -47,18 +49,18 @@ loop-less c = search needs
 
 loop-again : tie.Need-loop-again Inv-loop μ-loop
 loop-again c =
-    let a = c .before .before .before .before .before .args in
-    let l = c .before .before .loop in (
-      omega arith,
-      simp length-set (l .inv .1),
-      next-written (l .output) (l .i) (c .walk-down .result) (seat (netted (a .records)) (entry (a .size) (a .choices .now)) (a .p) (a .records .cabinets) (a .x)) (omega arith) (c .walk-down .ensures) (l .inv .2),
-    )
+    let l = c .before .before .loop in
+    (omega arith, simp length-set (l .inv .1), next-written (l .output) (l .i) (c .place-in .result) (λ d. digit-in base low-digits (c .before .before .before .root-key .result) (length (c .before .before .before .before .before .before .args .output .now) - 1 - d)) (omega (arith, l .inv .1)) (c .place-in .ensures .0) (l .inv .2))
 
 same-length : tie.Need-same-length Inv-loop μ-loop
-same-length c = search needs
+same-length c = c .before .loop .inv .1
 
 returns : tie.Need-returns Inv-loop μ-loop
-returns c = λ i l. c .before .loop .inv .2 i (omega arith)
+returns c =
+    let P = c .before .before .before .before .before .pre in
+    λ i l. c .before .loop .inv .2 i (omega (arith, P .places))
+    ∙ ap (λ (n : ℕ). digit-in base low-digits (c .before .before .root-key .result) (n - 1 - i)) (P .places)
+    ∙ root-digit (c .before .before .before .before .before .args .records) (c .before .before .before .before .before .args .output .now) (c .before .before .before .before .before .args .choices .now) P (c .before .before .root-key .ensures) i l
 
 pub read-places-spec : {M : Type 1} → statement M
 read-places-spec =
@@ -66,8 +68,11 @@ read-places-spec =
     (tie.spec
     Inv-loop
     μ-loop
+    root-key-requires
     loop-holds
-    walk-down-requires
+    sub-place-in
+    sub-place-in-2
+    place-in-requires
     cast-output
     mul-output
     slice-write-output

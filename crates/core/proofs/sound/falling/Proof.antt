@@ -11,7 +11,7 @@ use borrow.Author.Tests.{le-leb, lt-leb, lt-ltb, le-ltb}
 use Rattle.finite.specs.Below.{all-below}
 use Rattle.finite.proofs.Booleans.{either-l, either-r, neither}
 use Rattle.finite.proofs.Tests.{all-in, all-next, all-end, all-stop}
-use Rattle.core.specs.Sound as sounds
+use Rattle.rows.specs.Cabinets as cabinets
 use Rattle.core.proofs.sound.falling.Statement.{statement}
 use Rattle.core.proofs.sound.falling.Tie as tie
 
@@ -37,7 +37,7 @@ index-requires : tie.Need-index-requires Inv-loop μ-loop
 index-requires c κs = search needs
 
 returns : tie.Need-returns Inv-loop μ-loop
-unfolding sounds.falling
+unfolding cabinets.falling
 returns c = all-stop (c .before .before .before .before .before .args .n) (test (c .before .before .before .before .before .args .parent .now)) (c .before .before .before .before .loop .c) (omega arith) (neither (leb (c .before .before .before .before .loop .c) 0) _ (lt-leb (c .before .before .before .before .loop .c) 0 (omega (arith, c .before .before .before .before .loop .inv .0))) (le-ltb (getD (c .before .before .before .before .before .args .parent .now) (c .before .before .before .before .loop .c) 0) (c .before .before .before .before .loop .c) (omega (arith, c .if1 .taken, c .before .index .ensures .0))))
 
 add-c : tie.Need-add-c Inv-loop μ-loop
@@ -50,7 +50,7 @@ loop-again : tie.Need-loop-again Inv-loop μ-loop
 loop-again c = (omega arith, omega arith, all-next (c .before .before .before .before .loop .c) (test (c .before .before .before .before .before .args .parent .now)) (c .before .before .before .before .loop .inv .2) (either-r (leb (c .before .before .before .before .loop .c) 0) _ (lt-ltb (getD (c .before .before .before .before .before .args .parent .now) (c .before .before .before .before .loop .c) 0) (c .before .before .before .before .loop .c) (omega (arith, c .if1 .left, c .before .index .ensures .0)))))
 
 returns-2 : tie.Need-returns-2 Inv-loop μ-loop
-unfolding sounds.falling
+unfolding cabinets.falling
 returns-2 c = all-end (c .before .before .args .n) (c .before .loop .c) (test (c .before .before .args .parent .now)) (omega arith) (omega arith) (c .before .loop .inv .2)
 
 pub falling-spec : {M : Type 1} → statement M

@@ -1,43 +1,13 @@
 -- `join_child` meets its contract.
-use Prim.Native.Nat.{_-_}
+use Prim.Native.Nat.{_*_}
 use native.Mathlib.Omega.{arith}
 use mathlib.Core.Path.{sym, _∙_}
 use borrow.Author.Needs.{needs}
-use Rattle.rows.proofs.Parted.{row-length}
+use Rattle.rows.proofs.Parted.{row-length, row-entry}
 use Rattle.rows.proofs.Joinable.{joins-child}
+use borrow.Author.Needs.{needs}
 use Rattle.rows.proofs.tables.join_child.Statement.{statement}
 use Rattle.rows.proofs.tables.join_child.Tie as tie
-
--- the nodes of the function that its needs reach back to
-abbrev start-before-copy-row-arg2 : tie.After-copy-row-arg2 → tie.Start
-start-before-copy-row-arg2 c = c .before .before .before .before .before .before .before .before
-
-abbrev copy-row-before-join-arg4 : tie.After-join-arg4 → tie.After-copy-row
-copy-row-before-join-arg4 c = c .before .before .before .before .before .before .before .before .before .before
-
-abbrev link-row-before-join-arg4 : tie.After-join-arg4 → tie.After-link-row
-link-row-before-join-arg4 c = c .before .before .before .before .before .before
-
-abbrev start-before-join-arg4 : tie.After-join-arg4 → tie.Start
-start-before-join-arg4 c = c .before .before .before .before .before .before .before .before .before .before .before .before .before .before .before .before .before .before .before
-
-abbrev copy-row-before-link-row-arg : tie.After-link-row-arg → tie.After-copy-row
-copy-row-before-link-row-arg c = c .before .before .before
-
-abbrev start-before-link-row-arg : tie.After-link-row-arg → tie.Start
-start-before-link-row-arg c = c .before .before .before .before .before .before .before .before .before .before .before .before
-
-abbrev copy-row-before-slice-known8 : tie.After-slice-known8 → tie.After-copy-row
-copy-row-before-slice-known8 c = c .before .before .before .before .before .before .before .before .before .before .before .before .before .before .before
-
-abbrev join-before-slice-known8 : tie.After-slice-known8 → tie.After-join
-join-before-slice-known8 c = c .before .before .before .before
-
-abbrev link-row-before-slice-known8 : tie.After-slice-known8 → tie.After-link-row
-link-row-before-slice-known8 c = c .before .before .before .before .before .before .before .before .before .before .before
-
-abbrev start-before-slice-known8 : tie.After-slice-known8 → tie.Start
-start-before-slice-known8 c = c .before .before .before .before .before .before .before .before .before .before .before .before .before .before .before .before .before .before .before .before .before .before .before .before
 
 mul-at : tie.Need-mul-at
 mul-at c = search needs
@@ -50,6 +20,18 @@ mul-below c = search needs
 
 add-below-end : tie.Need-add-below-end
 add-below-end c = search needs
+
+mul-first : tie.Need-mul-first
+mul-first c = search needs
+
+mul-first-2 : tie.Need-mul-first-2
+mul-first-2 c = search needs
+
+mul-first-end : tie.Need-mul-first-end
+mul-first-end c = search needs
+
+add-first-end : tie.Need-add-first-end
+add-first-end c = search needs
 
 mul-copy-row : tie.Need-mul-copy-row
 mul-copy-row c = search needs
@@ -64,16 +46,10 @@ part-copy-row-end : tie.Need-part-copy-row-end
 part-copy-row-end c = search needs
 
 copy-row-requires : tie.Need-copy-row-requires
-copy-row-requires c κs =
-    let a = start-before-copy-row-arg2 c .args in
-    let J = start-before-copy-row-arg2 c .pre .0 in
-    omega (arith, row-length (a .size) (a .c) (a .costs .now) (J .child), start-before-copy-row-arg2 c .pre .1 .for-child)
+copy-row-requires c κs = search needs
 
 link-row-requires : tie.Need-link-row-requires
-link-row-requires c κs =
-    let P = start-before-link-row-arg c .pre in
-    let k = copy-row-before-link-row-arg c .copy-row .kept .0 in
-    (P .1 .for-link, P .0 .sets, P .1 .for-sums)
+link-row-requires c κs = search needs
 
 mul-join : tie.Need-mul-join
 mul-join c = search needs
@@ -99,15 +75,29 @@ part-join-start-2 c = search needs
 part-join-end-2 : tie.Need-part-join-end-2
 part-join-end-2 c = search needs
 
+mul-join-3 : tie.Need-mul-join-3
+mul-join-3 c = search needs
+
+sub-join-3 : tie.Need-sub-join-3
+sub-join-3 c = search needs
+
+part-join-start-3 : tie.Need-part-join-start-3
+part-join-start-3 c = search needs
+
+part-join-end-3 : tie.Need-part-join-end-3
+part-join-end-3 c = search needs
+
 join-requires : tie.Need-join-requires
 join-requires c κs =
-    let a = start-before-join-arg4 c .args in
-    let J = start-before-join-arg4 c .pre .0 in
-    let S = start-before-join-arg4 c .pre .1 in
+    let a = c .before .before .before .before .before .before .before .before .before .before .before .before .before .before .before .before .before .before .before .before .before .before .args in
+    let J = c .before .before .before .before .before .before .before .before .before .before .before .before .before .before .before .before .before .before .before .before .before .before .pre .0 in
+    let S = c .before .before .before .before .before .before .before .before .before .before .before .before .before .before .before .before .before .before .before .before .before .before .pre .1 .0 in
+    let small = c .before .before .before .before .before .before .before .before .before .before .before .before .before .before .before .before .before .before .before .before .before .before .pre .1 .1 in
     let e = row-length (a .size) (a .p) (a .costs .now) (J .row) in
-    let child = copy-row-before-join-arg4 c .copy-row .kept .0 in
-    let link = link-row-before-join-arg4 c .link-row .kept .0 in
-    ((omega (arith, e, J .sets), row-length (a .size) (a .c) (a .choices .now) (J .choices) ∙ sym e), (omega (arith, e, S .for-child, child), omega (arith, e, S .for-link, link)))
+    let f = row-length (2 * a .size) (a .q) (a .keys .now) (J .keys) in
+    let child = c .before .before .before .before .before .before .before .before .before .before .before .copy-row .kept .0 in
+    let link = c .before .before .before .before .before .before .before .link-row .kept .0 in
+    ((omega (arith, e, J .sets), row-length (a .size) (a .c) (a .choices .now) (J .choices) ∙ sym e, omega (arith, e, f)), ((omega (arith, e, S .for-child, child), omega (arith, e, S .for-link, link), omega (arith, e, S .for-keys)), (λ i m. rw (row-entry (2 * a .size) (a .q) (a .keys .now) (J .keys) i (omega (arith, e))) (small .1 i (omega (arith, e))), λ i m. small .0 i (omega (arith, e)))))
 
 same-length : tie.Need-same-length
 same-length c = search needs
@@ -121,8 +111,11 @@ same-length-3 c = search needs
 same-length-4 : tie.Need-same-length-4
 same-length-4 c = search needs
 
+same-length-5 : tie.Need-same-length-5
+same-length-5 c = search needs
+
 returns : tie.Need-returns
-returns c = joins-child (start-before-slice-known8 c .args .k) (start-before-slice-known8 c .args .sums .now) (start-before-slice-known8 c .pre .0) (copy-row-before-slice-known8 c .copy-row .last .0) (link-row-before-slice-known8 c .link-row .last .0) (copy-row-before-slice-known8 c .copy-row .ensures) (link-row-before-slice-known8 c .link-row .ensures) (join-before-slice-known8 c .join .last .0) (join-before-slice-known8 c .join .last .1 .0) (join-before-slice-known8 c .join .result) (join-before-slice-known8 c .join .kept .0) (join-before-slice-known8 c .join .kept .1 .0) (join-before-slice-known8 c .join .ensures)
+returns c = joins-child (c .before .before .before .before .before .before .before .before .before .before .before .before .before .before .before .before .before .before .before .before .before .before .before .before .before .before .before .before .before .args .k) (c .before .before .before .before .before .before .before .before .before .before .before .before .before .before .before .before .before .before .before .before .before .before .before .before .before .before .before .before .before .args .sums .now) (c .before .before .before .before .before .before .before .before .before .before .before .before .before .before .before .before .before .before .before .before .before .before .before .before .before .before .before .before .before .args .child-keys .now) (c .before .before .before .before .before .before .before .before .before .before .before .before .before .before .before .before .before .before .before .before .before .before .before .before .before .before .before .before .before .pre .0) (c .before .before .before .before .before .before .before .before .before .before .before .before .before .before .before .before .before .before .copy-row .last .0) (c .before .before .before .before .before .before .before .before .before .before .before .before .before .before .link-row .last .0) (c .before .before .before .before .before .before .before .before .before .before .before .before .before .before .before .before .before .before .copy-row .ensures) (c .before .before .before .before .before .before .before .before .before .before .before .before .before .before .link-row .ensures) (c .before .before .before .before .before .before .join .last .0) (c .before .before .before .before .before .before .join .last .1 .0) (c .before .before .before .before .before .before .join .last .1 .1 .0) (c .before .before .before .before .before .before .join .result) (c .before .before .before .before .before .before .join .kept .0) (c .before .before .before .before .before .before .join .kept .1 .0) (c .before .before .before .before .before .before .join .kept .1 .1 .0) (c .before .before .before .before .before .before .join .ensures)
 
 pub join-child-spec : {M : Type 1} → statement M
 join-child-spec =
@@ -132,6 +125,10 @@ join-child-spec =
     add-end
     mul-below
     add-below-end
+    mul-first
+    mul-first-2
+    mul-first-end
+    add-first-end
     mul-copy-row
     sub-copy-row
     part-copy-row-start
@@ -146,9 +143,14 @@ join-child-spec =
     sub-join-2
     part-join-start-2
     part-join-end-2
+    mul-join-3
+    sub-join-3
+    part-join-start-3
+    part-join-end-3
     join-requires
     same-length
     same-length-2
     same-length-3
     same-length-4
+    same-length-5
     returns)
