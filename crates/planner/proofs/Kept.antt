@@ -1,6 +1,6 @@
 -- For records that pass the core's tests, what the core answers and keeps is what the instance that they tell of says:
--- the kept tables hold its entries, the answer is its cheapest cost with its count of splits, and the output is a cheapest plan.
-use Prim.Native.Nat.{ℕ, _+_, _-_, _*_, _^_, _≤_, _<_}
+-- the kept tables hold its entries, the answer is its cheapest cost with its count of splits, and the output is the first of its cheapest plans.
+use Prim.Native.Nat.{ℕ, _*_, _^_, _≤_, _<_}
 use native.Mathlib.Omega.{arith}
 use mathlib.Core.Path.{_≡_, refl, sym, ap, ap₂, _∙_, subst, fun-ext}
 use mathlib.Core.Bool.{Bool, true, false, _||_}
@@ -8,7 +8,6 @@ use mathlib.Core.List.{List, _++_, append-nil}
 use lib.Dec.{leb, ltb}
 use lib.Bits.{bitAnd}
 use lib.ListN.{length, getD, replicate, drop-of-length-le}
-use lib.Seq.{take-all}
 use borrow.Author.Tests.{eq-eqb, ne-eqb, le-leb, leb-false, lt-ltb}
 use Rattle.finite.proofs.Tests.{all-in}
 use Rattle.finite.specs.Below.{only}
@@ -18,28 +17,25 @@ use Rattle.subsets.specs.Inner.Masks.{full}
 use Rattle.subsets.specs.Costs.{Cost, none, some}
 use Rattle.subsets.specs.Inner.Encoded.{figure}
 use Rattle.subsets.specs.Inner.Net.{Net}
-use Rattle.subsets.specs.Inner.Splits.{split-charge}
 use Rattle.subsets.specs.Inner.Rows.{row-at, choice-at}
-use Rattle.subsets.specs.Inner.Back.{seat, Wins}
+use Rattle.subsets.specs.Inner.Keys.{ordered}
+use Rattle.subsets.specs.Inner.Back.{seat}
 use Rattle.subsets.specs.Inner.Count as counts
-use Rattle.subsets.proofs.Sets.{has-full, full-lt}
 use Rattle.subsets.proofs.Rows.{row-before}
-use Rattle.subsets.proofs.Back.{choice-wins, seat-root}
-use Rattle.subsets.proofs.Provided.{provided-some}
 use Rattle.sheet.specs.Limits.{max-services, max-cabinets, max-streams, max-amount}
 use Rattle.sheet.specs.Instance.{Instance, WellFormed}
-use Rattle.embedding.specs.Plan as plans
-use Rattle.embedding.specs.Plan.{place, demand-of, in-range, valid, plan-cost, worth, cheapest}
+use Rattle.embedding.specs.Plan.{demand-of, cheapest}
+use Rattle.embedding.specs.First.{first-plan, places}
+use Rattle.embedding.proofs.First.{places-only, seat-first-table}
 use Rattle.embedding.specs.Inner.Charge.{leaving, entering, cabinet-charge, link-charge, net}
 use Rattle.embedding.specs.Splits.{weighed}
 use Rattle.embedding.proofs.Reckoning.{demand-sum, charge-by-digits, charge-by-flows}
-use Rattle.embedding.proofs.Mappings.{range-test}
-use Rattle.embedding.proofs.Services.{worth-ext}
-use Rattle.embedding.proofs.Theorems.{charges, weighed-rows}
+use Rattle.embedding.proofs.Theorems.{weighed-rows}
 use Rattle.rows.specs.Cabinets as cabinets
-use Rattle.rows.specs.Cabinets.{field, parent-of, own-of, link-of}
+use Rattle.rows.specs.Cabinets.{field, parent-of, own-of, link-of, falling}
+use Rattle.rows.specs.Keys.{base}
 use Rattle.core.specs.Sound as sounds
-use Rattle.core.specs.Sound.{amounts, falling, between, sound}
+use Rattle.core.specs.Sound.{amounts, between, sound}
 use Rattle.core.specs.Sums as sums
 use Rattle.core.specs.Sums.{demand-in, flow-out}
 use Rattle.rows.specs.Charges.{own-cost, link-cost}
@@ -57,30 +53,12 @@ use Rattle.records.proofs.Bars.{set-barred, bars-there}
 use Rattle.planner.specs.Inner.Decided.{planned-of}
 use Rattle.planner.proofs.Solving.{root-cheapest}
 
--- ---- an instance's count and its cheapest plans, by any table of winning choices
+-- ---- an instance's count
 
 module _ (I : Instance) (W : WellFormed I) where
   weighed-net : counts.weighed (net I) ≡ weighed I
   unfolding counts.triples counts.pairs
   weighed-net = sym (weighed-rows I W (λ c a. row-at (net I) (I .parent c) c a) (λ c a z l h. row-before (net I) (W .parents) c a z l h))
-
-  module _ (choice : ℕ → ℕ → ℕ) (same : (c x : ℕ) → 0 < c → c < I .s → x < 2 ^ I .r → choice c x ≡ choice-at (net I) c x) where
-    wins : Wins (net I) choice
-    wins c x m z l h e =
-        ap (λ (a : ℕ). split-charge (row-at (net I) (I .parent c) c) (row-at (net I) c (I .s)) (net I .link c) x (bitAnd a x)) (same c x z l h)
-        ∙ choice-wins (net I) (W .parents) c x m z l h e
-
-    -- The plan read back is valid, at the cheapest cost.
-    pub read-choices : (n : ℕ) → cheapest I ≡ some n → (output : List ℕ) → ((i : ℕ) → i < I .r → getD output i 0 ≡ seat (net I) choice 0 (I .s) (full (I .r)) i)
-        → (valid I (place output) ≡ true) × (plan-cost I (place output) ≡ n)
-    unfolding plans.worth
-    read-choices n e output at =
-        let π : ℕ → ℕ = seat (net I) choice 0 (I .s) (full (I .r)) in
-        let M = seat-root (net I) choice (W .parents) wins (full (I .r)) n (W .some-cabinet) (full-lt (I .r)) (root-cheapest I W ∙ e) in
-        let inside : in-range I π ≡ true = range-test I π .1 (λ i l. M .sits i l (has-full (I .r) i l) .1) in
-        let right = charges I W π inside n .0 (M .cost ∙ root-cheapest I W ∙ e) in
-        provided-some (valid I (place output)) (plan-cost I (place output)) n .0
-        (worth-ext I W (place output) π at ∙ provided-some (valid I π) (plan-cost I π) n .1 right)
 
 -- ---- records that pass
 
@@ -154,7 +132,7 @@ module _ (k : Records) (passes : sound k ≡ true) where
 
   same-choice : (c x : ℕ) → tables.choice-entry k c x ≡ choice-entry (told k) c x
   unfolding tables.choice-entry choice-entry
-  same-choice c x = ap (λ (N : Net). only (ltb 0 c) (choice-at N c x)) same-net
+  same-choice c x = ap (λ (N : Net). only (ltb 0 c) (choice-at (ordered base N) c x)) same-net
 
   same-count : counts.weighed (netted k) ≡ weighed (told k)
   same-count = ap counts.weighed same-net ∙ weighed-net (told k) told-well
@@ -180,17 +158,18 @@ module _ (k : Records) (passes : sound k ≡ true) where
   pub kept-answer : planned-of (decided (least k) (counts.weighed (netted k))) ≡ solved (cheapest (told k)) (weighed (told k))
   kept-answer = ap₂ (λ (f : Cost) (n : ℕ). planned-of (decided f n)) same-least same-count ∙ answers (cheapest (told k)) (weighed (told k))
 
-  choice-there : (c x : ℕ) → 0 < c → tables.choice-entry k c x ≡ choice-at (net (told k)) c x
+  choice-there : (c x : ℕ) → 0 < c → tables.choice-entry k c x ≡ choice-at (ordered base (net (told k))) c x
   unfolding choice-entry only
   choice-there c x z = same-choice c x ∙ rw (lt-ltb 0 c z) refl
 
-  -- The output is a cheapest plan.
-  pub kept-output : (c n : ℕ) (o o' : List ℕ) → kept.Plan c n ≡ decided (least k) (counts.weighed (netted k)) → OutputOf k (kept.Plan c n) o o'
-      → (valid (told k) (place o') ≡ true) × (plan-cost (told k) (place o') ≡ c)
+  -- The output is the first of the cheapest plans.
+  pub kept-output : (c n : ℕ) (o o' : List ℕ) → length o' ≡ told k .r → kept.Plan c n ≡ decided (least k) (counts.weighed (netted k)) → OutputOf k (kept.Plan c n) o o'
+      → o' ≡ places (told k .r) (first-plan (told k))
   unfolding told
-  kept-output c n o o' e H =
-      read-choices (told k) told-well (tables.choice-entry k) (λ d x z l h. choice-there d x z) c (sym same-least ∙ cost-is (least k) refl) o'
-      (λ i l. H i l ∙ ap (λ (N : Net). seat N (tables.choice-entry k) 0 (k .cabinets) (full (k .services)) i) same-net)
+  kept-output c n o o' long e H =
+      places-only (told k .r) (first-plan (told k)) o' long (λ i l.
+      H i l ∙ ap (λ (N : Net). seat N (tables.choice-entry k) 0 (k .cabinets) (full (k .services)) i) same-net
+      ∙ seat-first-table (told k) told-well base (G .cabinets) (tables.choice-entry k) (λ d x z m h. choice-there d x z) c (sym same-least ∙ cost-is (least k) refl) i l)
     where
       cost-is : (f : Cost) → least k ≡ f → least k ≡ some c
       cost-is none q = absurd (let z : kept.Plan c n ≡ kept.NoPlan (counts.weighed (netted k)) = e ∙ ap (λ (f : Cost). decided f (counts.weighed (netted k))) q in let y : _≡_ {A = ℕ} 0 1 = cc in omega arith)
@@ -203,7 +182,7 @@ unfolding sounds.amounts
 amounts-in n l h = all-in n _ (λ i m. le-leb (getD l i 0) max-amount (omega (arith, h i, field-in n l i m)))
 
 falling-in : (n : ℕ) (l : List ℕ) → ((c : ℕ) → 0 < c → field n l c < c) → falling n l ≡ true
-unfolding sounds.falling
+unfolding cabinets.falling
 falling-in n l h = all-in n _ (λ c m. go c m (leb c 0) refl)
   where
     go : (c : ℕ) → c < n → (t : Bool) → leb c 0 ≡ t → t || ltb (getD l c 0) c ≡ true
@@ -248,15 +227,15 @@ told-sound k W =
 -- A keeping call on a well-formed instance's records, with memory of the size that it needs.
 pub record Kept-of (k : Records) (o o' t' u' : List ℕ) (a : Kept) : Type 0 where
   pub answer : planned-of a ≡ solved (cheapest (told k)) (weighed (told k))
-  pub plan : (c n : ℕ) → a ≡ kept.Plan c n → (valid (told k) (place o') ≡ true) × (plan-cost (told k) (place o') ≡ c)
+  pub plan : (c n : ℕ) → a ≡ kept.Plan c n → o' ≡ places (told k .r) (first-plan (told k))
   pub tables : Filled (told k) t' u' (weighed (told k))
 
 pub keeps-instance : (k : Records) (o o' t t' u u' : List ℕ) (a : Kept) → WellFormed (told k) → length o ≡ told k .r → length t ≡ entries (told k) → length u ≡ entries (told k)
-    → Keeps k o o' t t' u u' a → Kept-of k o o' t' u' a
+    → length o' ≡ length o → Keeps k o o' t t' u u' a → Kept-of k o o' t' u' a
 unfolding told tables.fitting
-keeps-instance k o o' t t' u u' a W lo lt lu K = record {
+keeps-instance k o o' t t' u u' a W lo lt lu same K = record {
   answer = ap planned-of (K .answer fit) ∙ kept-answer k s;
-  plan = λ c n e. kept-output k s c n o o' (sym e ∙ K .answer fit) (subst (λ (b : Kept). OutputOf k b o o') e (K .output fit));
+  plan = λ c n e. kept-output k s c n o o' (same ∙ lo) (sym e ∙ K .answer fit) (subst (λ (b : Kept). OutputOf k b o o') e (K .output fit));
   tables = subst (Filled (told k) t' u') (same-count k s) (kept-tables k s t' u' _ (K .tables fit));
 }
   where
@@ -276,8 +255,8 @@ pub record Solved-of (k : Records) (o o' t' u' : List ℕ) (a : Kept) : Type 0 w
 after-plan : (k : Records) (s : sound k ≡ true) (o o' : List ℕ) → length o ≡ told k .r → length o' ≡ length o → (a : Kept)
     → a ≡ decided (least k) (counts.weighed (netted k)) → OutputOf k a o o' → OutputAfter (told k) (planned-of a) o o'
 after-plan k s o o' lo same (kept.Plan c n) e H =
-    let g = kept-output k s c n o o' e H in
-    (same, g .0, g .1, sym (ap₂ (λ (x y : List ℕ). x ++ y) (take-all (told k .r) o' (omega arith)) (drop-of-length-le o {i = told k .r} (omega arith)) ∙ append-nil o'))
+    kept-output k s c n o o' (same ∙ lo) e H
+    ∙ sym (ap (λ (y : List ℕ). places (told k .r) (first-plan (told k)) ++ y) (drop-of-length-le o {i = told k .r} (omega arith)) ∙ append-nil (places (told k .r) (first-plan (told k))))
 after-plan k s o o' lo same (kept.NoPlan n) e H = H
 after-plan k s o o' lo same kept.Unfit e H = H
 

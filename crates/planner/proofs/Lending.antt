@@ -1,13 +1,12 @@
 -- The lender's refusals, and what the whole of the memory lent holds once its first part was used.
-use Prim.Native.Nat.{ℕ, _+_, _^_, _≤_, _<_}
+use Prim.Native.Nat.{ℕ, _^_, _≤_, _<_}
 use native.Mathlib.Omega.{arith}
 use native.Mathlib.Nat.{pow-le-pow-right}
 use mathlib.Core.Path.{_≡_, refl, sym, ap, _∙_}
 use mathlib.Core.Bool.{true, _||_}
-use mathlib.Core.List.{List, _++_}
+use mathlib.Core.List.{List, _++_, append-nil}
 use lib.Dec.{ltb}
-use lib.ListN.{length, take, drop, replicate, length-append, take-append-drop, List·getD-append}
-use lib.Seq.{take-at}
+use lib.ListN.{take, drop, replicate, length-take, drop-of-length-le, take-append-drop}
 use borrow.Author.Tests.{lt-ltb, le-ltb, ne-eqb}
 use Rattle.finite.proofs.Booleans.{clash, either-r, neither}
 use Rattle.subsets.specs.Costs.{Cost, none, some}
@@ -19,11 +18,9 @@ use Rattle.sheet.specs.declared.Refusal.{Refusal}
 use Rattle.sheet.specs.declared.Reading.the-variants as readers
 use Rattle.sheet.proofs.Groups.{reading-number}
 use Rattle.sheet.specs.declared.Refusal.the-variants.{Lender}
-use Rattle.embedding.specs.Plan as plans
-use Rattle.embedding.specs.Plan.{place, valid, plan-cost, cheapest}
+use Rattle.embedding.specs.Plan.{cheapest}
+use Rattle.embedding.specs.First.{first-plan, places}
 use Rattle.embedding.specs.Splits.{weighed}
-use Rattle.subsets.proofs.Provided.{provided-some}
-use Rattle.embedding.proofs.Services.{worth-ext}
 use Rattle.planner.specs.declared.Planned.{Planned}
 use Rattle.planner.specs.declared.Planned.the-variants.{Plan, Refused}
 use Rattle.planner.specs.Answers.{entries, lender-rules, solved, lent}
@@ -64,18 +61,11 @@ table-lifted I a f n table part e p =
     rw (ap used e ∙ solved-used f n) (ap (λ (l : List ℕ). l ++ drop (entries I) table) p)
 
 -- the output whose first part was written
-pub output-lifted : (I : Instance) → WellFormed I → (a : Planned) (output part : List ℕ) → length part ≡ I .r → OutputAfter I a (take (I .r) output) part → OutputAfter I a output (part ++ drop (I .r) output)
-unfolding plans.worth
-output-lifted I W (Plan k n) output part e (s, v, c, w) =
-    let π : ℕ → ℕ = place (part ++ drop (I .r) output) in
-    let good = provided-some (valid I π) (plan-cost I π) k .0
-    (worth-ext I W π (place part) (λ i l. List·getD-append part (drop (I .r) output) 0 i (omega arith)) ∙ provided-some (valid I (place part)) (plan-cost I (place part)) k .1 (v, c)) in (
-      length-append part (drop (I .r) output) ∙ ap (λ (m : ℕ). m + length (drop (I .r) output)) s ∙ sym (length-append (take (I .r) output) (drop (I .r) output)) ∙ ap length (take-append-drop (I .r) output),
-      good .0,
-      good .1,
-      ap (λ (l : List ℕ). l ++ drop (I .r) output) (sym (take-at part (drop (I .r) output) (I .r) e)),
-    )
-output-lifted I W (Refused f n) output part e s = ap (λ (l : List ℕ). l ++ drop (I .r) output) s ∙ take-append-drop (I .r) output
+pub output-lifted : (I : Instance) → (a : Planned) (output part : List ℕ) → OutputAfter I a (take (I .r) output) part → OutputAfter I a output (part ++ drop (I .r) output)
+output-lifted I (Plan k n) output part s =
+    let none = drop-of-length-le (take (I .r) output) {i = I .r} (omega (arith, length-take (I .r) output)) in
+    ap (λ (l : List ℕ). l ++ drop (I .r) output) (s ∙ ap (λ (l : List ℕ). places (I .r) (first-plan I) ++ l) none ∙ append-nil (places (I .r) (first-plan I)))
+output-lifted I (Refused f n) output part s = ap (λ (l : List ℕ). l ++ drop (I .r) output) s ∙ take-append-drop (I .r) output
 
 -- with a refusal that the reader gave the tables are not used
 pub handed-on : (I : Instance) (bytes : List ℕ) (f : Refusal) (table : List ℕ) → reading bytes ≡ readers.Refused f → table ≡ table-after I (Refused f 0) table

@@ -4,9 +4,9 @@ use mathlib.Core.Path.{_≡_}
 use mathlib.Core.Bool.{Bool, true, cond}
 use mathlib.Core.List.{List, _++_}
 use lib.Dec.{eqb}
-use lib.ListN.{length, take, drop, replicate}
+use lib.ListN.{drop, replicate}
 use Rattle.sheet.specs.Instance.{Instance}
-use Rattle.embedding.specs.Plan.{place, valid, plan-cost}
+use Rattle.embedding.specs.First.{first-plan, places}
 use Rattle.planner.specs.Answers.{number, entries}
 use Rattle.planner.specs.declared.Planned.{Planned}
 use Rattle.planner.specs.declared.Planned.the-variants.{Plan, Refused}
@@ -20,12 +20,8 @@ used (Refused f n) = eqb (number (Refused f n)) 12
 abbrev pub table-after : Instance → Planned → List ℕ → List ℕ
 table-after I answer table = cond (used answer) (replicate (entries I) 0 ++ drop (entries I) table) table
 
--- the output after the call: with a plan its first r places are some valid plan of the cost answered, and all other places stay;
--- which of several cheapest plans it is is free. With a refusal all places stay. The length stays in both.
+-- the output after the call: with a plan its first r places are the first of the cheapest plans, and all other places stay; with a refusal all places
+-- stay
 abbrev pub OutputAfter : Instance → Planned → List ℕ → List ℕ → Type 0
-OutputAfter I (Plan k n) output output' =
-    (length output' ≡ length output)
-    × (valid I (place output') ≡ true)
-    × (plan-cost I (place output') ≡ k)
-    × (output' ≡ take (I .r) output' ++ drop (I .r) output)
+OutputAfter I (Plan k n) output output' = output' ≡ places (I .r) (first-plan I) ++ drop (I .r) output
 OutputAfter I (Refused f n) output output' = output' ≡ output

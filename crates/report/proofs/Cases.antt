@@ -6,7 +6,7 @@ use lib.ListN.{length, replicate}
 use borrow.Author.Tests.{lt-ltb}
 use Rattle.sheet.specs.Refusals.{refusal}
 use Rattle.planner.specs.declared.Planned.the-variants.{Plan, Refused}
-use Rattle.report.specs.Text.{longest, digits-within, decimal, line, service-lines, answer-text, Printed}
+use Rattle.report.specs.Text.{longest, digits-within, decimal, line, service-lines, answer-text, printed}
 
 pub zero : decimal 0 ≡ 48 ∷ []
 unfolding decimal digits-within
@@ -40,13 +40,11 @@ unfolding answer-text line decimal digits-within refusal
 no-plan = refl
 
 -- "refused 17" for any bytes that are too many
-pub too-many :
-    (bytes text : List ℕ) → longest < length bytes → Printed bytes text
-    → text ≡ 114 ∷ 101 ∷ 102 ∷ 117 ∷ 115 ∷ 101 ∷ 100 ∷ 32 ∷ 49 ∷ 55 ∷ 10 ∷ []
-unfolding line decimal digits-within
-too-many bytes text h p = rw (lt-ltb longest (length bytes) h) at p
+pub too-many : (bytes : List ℕ) → longest < length bytes → printed bytes ≡ 114 ∷ 101 ∷ 102 ∷ 117 ∷ 115 ∷ 101 ∷ 100 ∷ 32 ∷ 49 ∷ 55 ∷ 10 ∷ []
+unfolding printed line decimal digits-within
+too-many bytes h = rw (lt-ltb longest (length bytes) h) refl
 
 -- and so for 4,097 zeros
-pub zeros : Printed (replicate 4097 0) (114 ∷ 101 ∷ 102 ∷ 117 ∷ 115 ∷ 101 ∷ 100 ∷ 32 ∷ 49 ∷ 55 ∷ 10 ∷ [])
-unfolding line decimal digits-within
+pub zeros : printed (replicate 4097 0) ≡ 114 ∷ 101 ∷ 102 ∷ 117 ∷ 115 ∷ 101 ∷ 100 ∷ 32 ∷ 49 ∷ 55 ∷ 10 ∷ []
+unfolding printed line decimal digits-within
 zeros = refl

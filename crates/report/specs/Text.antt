@@ -1,15 +1,14 @@
 -- The program's text, in ASCII: 01's section "The program" and its refusal 17.
 use Prim.Native.Nat.{ℕ, zero, suc, _+_, _/_, _%_}
-use mathlib.Core.Path.{_≡_}
-use mathlib.Core.Bool.{Bool, true, false, cond}
+use mathlib.Core.Bool.{cond}
 use mathlib.Core.List.{List, [], _∷_, _++_}
 use lib.Dec.{ltb}
-use lib.ListN.{length, take, replicate}
+use lib.ListN.{length}
 use Rattle.sheet.specs.Limits.{max-services}
 use Rattle.sheet.specs.Refusals.{number-of}
 use Rattle.sheet.specs.Instance.{instance}
+use Rattle.embedding.specs.First.{first-plan, places}
 use Rattle.planner.specs.Answers.{planned}
-use Rattle.planner.specs.Lent.{OutputAfter}
 use Rattle.planner.specs.declared.Planned.{Planned}
 use Rattle.planner.specs.declared.Planned.the-variants.{Plan, Refused}
 
@@ -72,18 +71,10 @@ answer-text (Refused f count) plan = line refused-word (number-of f)
 abbrev pub program-answer : List ℕ → Planned
 program-answer bytes = planned bytes max-services table-entries table-entries
 
--- the text for a sheet: that of the planner's answer, with the plan that stands in the output after the call; which of several
--- cheapest plans that is is free
-pub record Answered (bytes text : List ℕ) : Type 0 where
-  pub output : List ℕ
-  pub written : OutputAfter (instance bytes) (program-answer bytes) (replicate max-services 0) output
-  pub told : text ≡ answer-text (program-answer bytes) (take (instance bytes .r) output)
+-- the text for a sheet: that of the planner's answer, with the first of the cheapest plans
+unfoldable pub sheet-text : List ℕ → List ℕ
+sheet-text bytes = answer-text (program-answer bytes) (places (instance bytes .r) (first-plan (instance bytes)))
 
--- the text for bytes that are too many, or not
-abbrev pub PrintedIf : Bool → List ℕ → List ℕ → Type 0
-PrintedIf true bytes text = text ≡ line refused-word too-long
-PrintedIf false bytes text = Answered bytes text
-
--- the program prints this text for these bytes
-abbrev pub Printed : List ℕ → List ℕ → Type 0
-Printed bytes text = PrintedIf (ltb longest (length bytes)) bytes text
+-- the text that the program prints: that for a sheet, or refusal 17 where the bytes are too many
+unfoldable pub printed : List ℕ → List ℕ
+printed bytes = cond (ltb longest (length bytes)) (line refused-word too-long) (sheet-text bytes)

@@ -4,7 +4,7 @@ ghost use Prim.Native.Nat.{_≤_};
 ghost use lib.ListN.{length, take};
 ghost use Rattle.io.specs.Counts.{Counts};
 ghost use Rattle.report.specs.Inner.Room.{room};
-ghost use Rattle.report.specs.Text.{answer-text, Answered, Printed};
+ghost use Rattle.report.specs.Text.{answer-text, sheet-text, printed};
 ghost use Rattle.sheet.specs.Limits.{max-services};
 ghost use Rattle.sheet.specs.Reading.{reading, services};
 use planner::Planned;
@@ -60,7 +60,7 @@ fn put_answer(text: &mut [u8], answer: Planned, plan: &[u16]) -> usize
 fn answer(sheet: &[u8], text: &mut [u8]) -> usize
     requires { ⌜ length (now text) ≡ room ⌝ }
     ensures position { λ n. ⌜ n ≤ room ⌝ }
-    ensures text { λ n. ⌜ Answered (now (sheet .entry)) (take n (now (text .exit))) ⌝ }
+    ensures text { λ n. ⌜ take n (now (text .exit)) ≡ sheet-text (now (sheet .entry)) ⌝ }
 {
     let mut output = [0u16; Sheet::MAX_SERVICES];
     let mut costs = [0u64; ENTRIES];
@@ -73,7 +73,7 @@ fn answer(sheet: &[u8], text: &mut [u8]) -> usize
 // Puts the text for a sheet at the start of `text`, and answers its length.
 pub fn respond(sheet: &[u8], text: &mut [u8; TEXT]) -> usize
     ensures length { λ n. ⌜ Counts n (now (text .exit)) ⌝ }
-    ensures text { λ n. ⌜ Printed (now (sheet .entry)) (take n (now (text .exit))) ⌝ }
+    ensures text { λ n. ⌜ take n (now (text .exit)) ≡ printed (now (sheet .entry)) ⌝ }
 {
     if LONGEST < sheet.len() {
         return put_line(text, 0, b"refused", TOO_LONG);

@@ -6,7 +6,7 @@
 --   `planned`, `OutputAfter`, `table-after` what `planner::plan` answers, and what output and tables hold after it
 --                                                                               crates/planner/src/lib.rt
 -- and the C entry points `gz_read`, `gz_check` and `gz_plan` have the same clauses in crates/gazrieksne/src. What the program prints is
--- `Printed` in crates/report/specs/Text.antt, by the contract of `report::respond`.
+-- `printed` in crates/report/specs/Text.antt, by the contract of `report::respond`.
 use Prim.Native.Nat.{ℕ, _-_, _*_, _^_, _≤_, _<_}
 use mathlib.Core.Logic.{_↔_, _⊎_, inl, inr}
 use mathlib.Core.Path.{_≡_, refl, _∙_}
@@ -22,10 +22,12 @@ use Rattle.sheet.specs.declared.Refusal.{Refusal}
 use Rattle.sheet.specs.declared.Reading.the-variants as readings
 use Rattle.sheet.proofs.Promises.{well-formed}
 use Rattle.sheet.proofs.Order.{given-first, reading-first, reading-order}
-use Rattle.embedding.specs.Definition1.{Feasible}
+use Rattle.subsets.specs.Order.{NotAfter}
+use Rattle.embedding.specs.Definition1.{Feasible, cost}
 use Rattle.embedding.specs.Limits.{Limits}
 use Rattle.embedding.specs.Road.{road}
 use Rattle.embedding.specs.Plan.{place}
+use Rattle.embedding.specs.First.{first-plan, places}
 use Rattle.embedding.specs.Splits.{weighed}
 use Rattle.embedding.proofs.Theorems.{plan-iff-mapping, cheapest-mapping}
 use Rattle.checker.specs.Check as check
@@ -159,3 +161,18 @@ plan-written bytes output output' costs choices k n e o =
       plan-iff-mapping (instance bytes) W (place (take (instance bytes .r) output')) k .0 (p .3, p .4),
       cheapest-mapping (instance bytes) W k .0 (planning.plan-cheapest bytes (length output) costs choices k n e .3) .1,
     )
+
+-- ---- The first of the cheapest
+
+-- The plan written is the first of the cheapest: for every rival mapping that is feasible, keeps the limits and costs what is answered, what stands in
+-- the first r places of the output is not after it, in the order of the cabinet of service 0, then of service 1, and so on. Which plan that is is told by
+-- `first-plan`, of the sheet alone. (`planner::plan`, clauses `answer` and `output`.)
+pub first-of-the-cheapest :
+    (bytes output output' : List ℕ) (costs choices k n : ℕ) →
+    planned bytes (length output) costs choices ≡ Plan k n →
+    OutputAfter (instance bytes) (Plan k n) output output' →
+    (take (instance bytes .r) output' ≡ places (instance bytes .r) (first-plan (instance bytes)))
+    × ((π : ℕ → ℕ) (ρ : ℕ → List ℕ) → Feasible (road (instance bytes)) π ρ → Limits (instance bytes) π ρ → cost (road (instance bytes)) π ρ ≡ k →
+    NotAfter (instance bytes .r) (place (take (instance bytes .r) output')) π)
+first-of-the-cheapest bytes output output' costs choices k n e o =
+    (planning.first-places (instance bytes) k n output output' o, planning.none-before bytes output output' costs choices k n e o)

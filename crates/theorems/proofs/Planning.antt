@@ -1,15 +1,16 @@
 -- What the planner's definition gives: the work behind the demands.
-use Prim.Native.Nat.{ℕ, zero, suc, _+_, _-_, _*_, _^_, _≤_}
+use Prim.Native.Nat.{ℕ, zero, suc, _+_, _-_, _*_, _^_, _≤_, _<_}
 use native.Mathlib.Omega.{arith}
 use mathlib.Core.Logic.{_↔_, _⊎_, inl, inr}
 use mathlib.Core.Path.{_≡_, refl, sym, ap, _∙_, subst}
 use mathlib.Core.Bool.{Bool, true, false, cond}
 use mathlib.Core.List.{List, [], _∷_, _++_}
 use lib.ListN.{length, getD, take, drop, replicate, length-append, length-replicate, getD-replicate, length-drop, List·getD-append}
-use lib.Seq.{length-take-le, getD-take, getD-append-add, getD-drop}
+use lib.Seq.{take-at, getD-append-add, getD-drop}
 use borrow.Author.Tests.{eqb-true}
 use Rattle.finite.proofs.Booleans.{clash}
 use Rattle.subsets.specs.Costs.{Cost, none, some}
+use Rattle.subsets.specs.Order.{NotAfter}
 use Rattle.subsets.specs.Inner.Count.{triples, pairs}
 use Rattle.subsets.proofs.Count.{triples-le}
 use Rattle.subsets.proofs.Provided.{provided-some}
@@ -22,13 +23,15 @@ use Rattle.sheet.specs.declared.Reading.{Reading}
 use Rattle.sheet.specs.declared.Reading.the-variants as readings
 use Rattle.sheet.proofs.Groups.{number-refusal, own-group, reading-group, one-of-left, first-listed, reading-number}
 use Rattle.sheet.proofs.Promises.{well-formed}
-use Rattle.embedding.specs.Definition1.{Feasible}
+use Rattle.embedding.specs.Definition1.{Feasible, cost}
 use Rattle.embedding.specs.Limits.{Limits}
 use Rattle.embedding.specs.Road.{road}
 use Rattle.embedding.specs.Plan.{place, valid, plan-cost, worth, cheapest}
+use Rattle.embedding.specs.First.{first-plan, places}
 use Rattle.embedding.specs.Splits.{placeable, weighed}
 use Rattle.embedding.proofs.Services.{worth-ext}
-use Rattle.embedding.proofs.Theorems.{cheapest-mapping, cheapest-none}
+use Rattle.embedding.proofs.First.{places-length, places-at, first-valid}
+use Rattle.embedding.proofs.Theorems.{cheapest-mapping, cheapest-none, first-mapping}
 use Rattle.planner.specs.Answers as plans
 use Rattle.planner.specs.Answers.{number, entries, lender-rules, Enough, plan-numbers, solved, lent, planned}
 use Rattle.planner.specs.Lent.{used, table-after, OutputAfter}
@@ -150,7 +153,16 @@ exactly I a (inr (e, empty)) =
 
 -- ---- the plan written
 
--- what stands in the first r places of the output is a valid plan at the cost answered
+-- what stands in the first r places of the output is the first of the cheapest plans
+pub first-places : (I : Instance) (k n : ℕ) (output output' : List ℕ) → OutputAfter I (Plan k n) output output' → take (I .r) output' ≡ places (I .r) (first-plan I)
+first-places I k n output output' o =
+    ap (take (I .r)) o ∙ take-at (places (I .r) (first-plan I)) (drop (I .r) output) (I .r) (places-length (I .r) (first-plan I))
+
+-- and so it is its plan, service by service
+pub first-written : (I : Instance) (k n : ℕ) (output output' : List ℕ) → OutputAfter I (Plan k n) output output' → (i : ℕ) → i < I .r → place (take (I .r) output') i ≡ first-plan I i
+first-written I k n output output' o i l = ap (λ (list : List ℕ). getD list i 0) (first-places I k n output output' o) ∙ places-at (I .r) (first-plan I) i l
+
+-- it is a valid plan at the cost answered
 pub written :
     (bytes output output' : List ℕ) (costs choices k n : ℕ) →
     planned bytes (length output) costs choices ≡ Plan k n →
@@ -164,13 +176,26 @@ written bytes output output' costs choices k n e o =
     let I = instance bytes in
     let s = plan-cheapest bytes (length output) costs choices k n e in
     let W = well-formed bytes (s .0) (s .1) in
-    let places = enough-iff I (length output) costs choices .0 (s .2) .0 in
-    let length-stays : length output' ≡ length output = o .0 in
-    let same = worth-ext I W (place (take (I .r) output')) (place output') (λ i l. getD-take (I .r) output' i 0 l) in
+    let same = worth-ext I W (place (take (I .r) output')) (first-plan I) (first-written I k n output output' o) in
     let p =
     provided-some (valid I (place (take (I .r) output'))) (plan-cost I (place (take (I .r) output'))) k .0
-    (same ∙ provided-some (valid I (place output')) (plan-cost I (place output')) k .1 (o .1, o .2)) in
-    (s .0, s .1, length-take-le (I .r) output' (omega arith), p .0, p .1)
+    (same ∙ provided-some (valid I (first-plan I)) (plan-cost I (first-plan I)) k .1 (first-valid I W k (s .3))) in
+    (s .0, s .1, ap length (first-places I k n output output' o) ∙ places-length (I .r) (first-plan I), p .0, p .1)
+
+-- no mapping of that cost comes before it
+pub none-before :
+    (bytes output output' : List ℕ) (costs choices k n : ℕ) →
+    planned bytes (length output) costs choices ≡ Plan k n →
+    OutputAfter (instance bytes) (Plan k n) output output' →
+    (π : ℕ → ℕ) (ρ : ℕ → List ℕ) → Feasible (road (instance bytes)) π ρ → Limits (instance bytes) π ρ → cost (road (instance bytes)) π ρ ≡ k →
+    NotAfter (instance bytes .r) (place (take (instance bytes .r) output')) π
+none-before bytes output output' costs choices k n e o π ρ feasible limits same =
+    let I = instance bytes in
+    let s = plan-cheapest bytes (length output) costs choices k n e in
+    let at = first-written I k n output output' o in
+    λ i l before.
+    subst (λ (c : ℕ). c ≤ π i) (sym (at i l))
+    (first-mapping I (well-formed bytes (s .0) (s .1)) k (s .3) π ρ feasible limits same i l (λ j m. sym (at j (omega arith)) ∙ before j m))
 
 -- ---- the memory lent
 
@@ -196,11 +221,11 @@ cleared n table h =
 -- the output with a plan in it
 output-written : (I : Instance) (k n : ℕ) (output output' : List ℕ) → I .r ≤ length output → OutputAfter I (Plan k n) output output' → Written (I .r) output output'
 output-written I k n output output' h o =
-    let same : length output' ≡ length output = o .0 in
+    let long = places-length (I .r) (first-plan I) in
     record {
       there = h;
-      length-stays = same;
-      rest = λ i l. ap (λ (list : List ℕ). getD list i 0) (o .3) ∙ stays (I .r) (take (I .r) output') output i (length-take-le (I .r) output' (omega arith)) l;
+      length-stays = ap length o ∙ length-append (places (I .r) (first-plan I)) (drop (I .r) output) ∙ (let q : length (places (I .r) (first-plan I)) + length (drop (I .r) output) ≡ length output = omega (arith, length-drop (I .r) output) in q);
+      rest = λ i l. ap (λ (list : List ℕ). getD list i 0) o ∙ stays (I .r) (places (I .r) (first-plan I)) output i long l;
     }
 
 -- the memory after a planning call

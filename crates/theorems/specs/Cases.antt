@@ -10,6 +10,7 @@ use Rattle.sheet.specs.Refusals.{refusal}
 use Rattle.sheet.specs.Reading.{reading, number}
 use Rattle.sheet.specs.Instance.{Instance, instance}
 use Rattle.embedding.specs.Plan.{digit, valid, plan-cost}
+use Rattle.embedding.specs.First.{first-plan, places}
 use Rattle.checker.specs.Check.{checked}
 use Rattle.checker.specs.declared.Checked.{Checked}
 use Rattle.checker.specs.declared.Checked.the-variants.{Accepted, Refused}
@@ -34,6 +35,8 @@ pub data Case : Type 0 where
   plan-costs : List ℕ → ℕ → Case
   -- every valid plan of this cost puts this service on this cabinet
   puts : List ℕ → ℕ → ℕ → ℕ → Case
+  -- the plan that the planner writes
+  writes : List ℕ → List ℕ → Case
 
 -- the planner's answer where the output has r places and each table s × 2^r entries
 abbrev pub answer-to : List ℕ → Planned
@@ -51,6 +54,7 @@ Holds (check bytes places answer) = checked bytes places ≡ answer
 Holds (plan bytes answer) = answer-to bytes ≡ answer
 Holds (plan-costs bytes k) = cost (answer-to bytes) ≡ k
 Holds (puts bytes k i c) = all-put (instance bytes) k i c ≡ true
+Holds (writes bytes written) = places (instance bytes .r) (first-plan (instance bytes)) ≡ written
 
 -- every case of a table holds
 abbrev pub AllHold : List Case → Type 0
@@ -121,18 +125,22 @@ cases =
     ∷ check road-m (2 ∷ 0 ∷ []) (Refused (refusal 16))
     ∷ check road-m (3 ∷ 0 ∷ []) (Refused (refusal 14))
     ∷ plan road-m (plans.Plan 15 18)
+    ∷ writes road-m (0 ∷ 1 ∷ [])
     ∷ plan (road 3 6) (plans.Plan 15 17)
     ∷ plan (road 0 6) (plans.Plan 15 12)
+    ∷ writes (road 0 6) (1 ∷ 2 ∷ [])
     ∷ plan (road 0 3) (plans.Plan 15 12)
     ∷ plan (road 0 2) (plans.Refused (refusal 12) 10)
     ∷ plan-costs road-z 12
     ∷ puts road-z 12 2 0
+    ∷ writes road-z (1 ∷ 2 ∷ 0 ∷ [])
     ∷ plan one-child (plans.Plan 3 3)
     ∷ check m-barred (0 ∷ 1 ∷ []) (Refused (refusal 20))
     ∷ check m-barred (1 ∷ 2 ∷ []) (Accepted 15)
     ∷ plan m-barred (plans.Plan 15 15)
     ∷ puts m-barred 15 0 1
     ∷ puts m-barred 15 1 2
+    ∷ writes m-barred (1 ∷ 2 ∷ [])
     ∷ plan m-nowhere (plans.Refused (refusal 12) 12)
     -- a block of no pairs; one pair, also twice, and after a gap
     ∷ read (m-with 68 (0 ∷ [])) 0

@@ -1,5 +1,5 @@
 -- `plan_records` meets its contract.
-use Prim.Native.Nat.{ℕ, _+_, _-_, _*_}
+use Prim.Native.Nat.{ℕ, _*_}
 use native.Mathlib.Omega.{arith}
 use mathlib.Core.Path.{_≡_, refl, sym, ap, _∙_, subst}
 use borrow.Author.Needs.{needs}
@@ -153,7 +153,7 @@ returns-4 c =
     let part = solve-before-slice-known6 c .solve .last .1 .0 in (
       S .0 ∙ enough I _ _ _ (else1-before-slice-known6 c .if1 .left) (omega (arith, n, else2-before-slice-known6 c .if2 .left)) (omega (arith, n, else3-before-slice-known6 c .if3 .left)),
       (
-        output-lifted I (start-before-slice-known6 c .pre) (solve-before-slice-known6 c .solve .result) (a .output .now) part (solve-before-slice-known6 c .solve .kept .1 .0 ∙ length-take-le _ _ (else1-before-slice-known6 c .if1 .left)) (S .1 .0),
+        output-lifted I (solve-before-slice-known6 c .solve .result) (a .output .now) part (S .1 .0),
         (
           subst (λ (m : ℕ). solve-before-slice-known6 c .solve .last .1 .1 .0 ++ drop m (a .costs .now) ≡ table-after I (solve-before-slice-known6 c .solve .result) (a .costs .now)) (sym n)
               (table-lifted I (solve-before-slice-known6 c .solve .result) (cheapest I) (weighed I) (a .costs .now) (solve-before-slice-known6 c .solve .last .1 .1 .0) (S .0) (S .1 .1 .0)),
