@@ -1,4 +1,6 @@
-/* Plans road M through the C interface: prints the cost, the count of splits weighed and each service's cabinet. */
+/* Plans road M through the C interface: prints the cost, the count of splits weighed and each
+ * service's cabinet. Two plans of M cost 15; the one with the lowest cabinet for service 0 is
+ * found, service 0 on cabinet 0 and service 1 on cabinet 1. */
 #include <inttypes.h>
 #include <stdio.h>
 

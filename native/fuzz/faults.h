@@ -70,6 +70,7 @@ extern const struct fault fourth_faults[];
 extern const struct fault reader_faults[];
 extern const struct fault checker_faults[];
 extern const struct fault planner_faults[];
+extern const struct fault first_faults[];
 
 /* The archive's own calls. */
 void real_read(struct read *call);

@@ -118,7 +118,7 @@ static const struct fault *find(unsigned long number)
 {
     static const struct fault none = {.what = "none"};
     const struct fault *lists[] = {sheet_faults, fourth_faults, reader_faults, checker_faults,
-                                   planner_faults};
+                                   planner_faults, first_faults};
     const struct fault *fault;
     size_t i;
 

@@ -19,7 +19,7 @@ static const char usage[] =
     "usage: fuzz [INPUTS [SEED]]\n"
     "Makes INPUTS inputs (default %d) from SEED (default %d), runs the target on each, and prints\n"
     "how often each answer was met. From %d inputs on, an answer that a call may give and never\n"
-    "gave is a failure too.\n";
+    "gave is a failure too, and so is that no plan was met that costs as much as one written.\n";
 
 /* The input under way, for the line that a failure ends with. */
 static char under_way[64];
@@ -138,7 +138,7 @@ static int tell_number(uint64_t number)
     return missing;
 }
 
-/* Prints the tally. Gives the number of answers never met. */
+/* Prints the tally. Gives the number of answers never met; a tie is one of them. */
 static int tell(void)
 {
     int missing = 0;
@@ -149,7 +149,8 @@ static int tell(void)
     for (number = 0; number <= LAST_REFUSAL; number++)
         if (is_given(number))
             missing += tell_number(number);
-    return missing;
+    printf("%" PRIu64 " plans beside which another costs as much\n", tally.tied);
+    return missing + (tally.tied == 0);
 }
 
 /* A whole number in decimal; false if the text is anything else. */

@@ -14,7 +14,7 @@ compile() {
     cc -std=c99 -Wall -Wextra -Werror -O1 -g \
         -fsanitize=address,undefined -fno-sanitize-recover=all -Inative/include "$@" \
         native/fuzz/{main,sheets,damage,damage_fourth,random}.c \
-        native/fuzz/{target,rules,layout,reader,checker,planner,refusals,lent,input,arena,require}.c \
+        native/fuzz/{target,rules,layout,reader,checker,planner,rivals,refusals,lent,input,arena,require}.c \
         target/staticlib/libgazrieksne.a -o "$build/$name"
 }
 
@@ -27,7 +27,7 @@ run_fault() {
 mkdir -p "$build"
 compile fuzz
 compile fuzz-faulty "${wrapped[@]/#/-Wl,--wrap=gz_}" \
-    native/fuzz/{faulty,faults_sheet,faults_fourth,faults_reader,faults_checker,faults_planner}.c
+    native/fuzz/{faulty,faults_sheet,faults_fourth,faults_reader,faults_checker,faults_planner,faults_first}.c
 
 "$build/fuzz"
 

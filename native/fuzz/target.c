@@ -7,6 +7,7 @@
 #include "layout.h"
 #include "planner.h"
 #include "require.h"
+#include "rivals.h"
 
 struct tally tally;
 
@@ -14,6 +15,7 @@ struct outcome {
     struct reading reading;
     struct checking checking;
     struct planning planning;
+    size_t ties; /* other plans met that cost as much as the one written */
 };
 
 /* Checks the plan that the input draws, of whatever length it says. */
@@ -43,6 +45,7 @@ static struct outcome call_all(const struct run *run)
     outcome.checking = check_drawn(run, &outcome.reading);
     outcome.planning = find_plan(run, &outcome.reading);
     bound_header(run);
+    outcome.ties = 0;
     return outcome;
 }
 
@@ -61,15 +64,6 @@ static void require_same(const struct outcome *one, const struct outcome *other)
             "What the tables hold before is of no matter");
 }
 
-static void require_not_better(const struct planning *planning, const struct checking *checking)
-{
-    if (checking->number != 0)
-        return;
-    require(planning->number != 12, "12  no valid plan exists");
-    if (planning->number == 0)
-        require(checking->answer[1] >= planning->answer[1], "Finds a cheapest plan");
-}
-
 static void require_written(const struct run *run, const struct outcome *outcome)
 {
     struct checking checking;
@@ -86,29 +80,8 @@ static void require_written(const struct run *run, const struct outcome *outcome
             "gz_plan: answer  group, cost, count (gz_check tells another cost)");
 }
 
-/* Plans that differ in one place from the plan found, or from all services on the root if none
- * was: none may be better. */
-static void require_no_rival(const struct run *run, const struct outcome *outcome)
-{
-    size_t r = (size_t)outcome->reading.counts[1];
-    uint64_t s = outcome->reading.counts[2];
-    size_t i;
-
-    if (outcome->planning.number != 0 && outcome->planning.number != 12)
-        return;
-    for (i = 0; i < r; i++) {
-        uint16_t rival[MOST_SERVICES];
-        struct checking checking;
-
-        memcpy(rival, outcome->planning.plan, sizeof rival);
-        rival[i] = (uint16_t)(input_word(run->input, i) % s);
-        checking = check_plan(run, &outcome->reading, rival, r);
-        require_not_better(&outcome->planning, &checking);
-    }
-}
-
-/* Plans that differ from the same plan by a service on a cabinet that it is barred from, for the
- * last pair and a few others. */
+/* Plans that differ from the plan found, or from all services on the root if none was, by a service
+ * on a cabinet that it is barred from, for the last pair and a few others. */
 static void check_barred(const struct run *run, const struct outcome *outcome)
 {
     size_t pairs = (size_t)outcome->reading.counts[4];
@@ -131,6 +104,7 @@ static void count(const struct outcome *outcome)
     tally.met[READ][outcome->reading.number]++;
     tally.met[CHECK][outcome->checking.number]++;
     tally.met[FIND][outcome->planning.number]++;
+    tally.tied += outcome->ties > 0;
 }
 
 int LLVMFuzzerTestOneInput(const uint8_t *data, size_t size)
@@ -151,7 +125,7 @@ int LLVMFuzzerTestOneInput(const uint8_t *data, size_t size)
     require_same(&one, &other);
     require_not_better(&one.planning, &one.checking);
     require_written(&first, &one);
-    require_no_rival(&second, &one);
+    one.ties = require_no_rival(&second, &one.reading, &one.planning);
     check_barred(&second, &one);
     count(&one);
     return 0;

@@ -1,4 +1,5 @@
-/* target.h: the fuzz target, and how often each answer was met. */
+/* target.h: the fuzz target, how often each answer was met, and how many plans were not the only
+ * cheapest. */
 #ifndef TARGET_H
 #define TARGET_H
 
@@ -12,6 +13,7 @@ enum call { READ, CHECK, FIND, CALLS };
 struct tally {
     uint64_t inputs;
     uint64_t met[CALLS][LAST_REFUSAL + 1];
+    uint64_t tied; /* inputs with a plan beside which another was met that costs as much */
 };
 
 extern struct tally tally;

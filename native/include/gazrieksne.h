@@ -2,9 +2,9 @@
  *
  * A planning sheet describes services with demands, cabinets that form a tree and have room for
  * services, streams between services, and which services are barred from which cabinets. The
- * library reads sheets, checks plans, and finds a cheapest plan. It keeps no state, allocates
- * nothing, and calls nothing of yours; any number of threads may call it at once, each with memory
- * of its own.
+ * library reads sheets, checks plans, and finds the first of the cheapest plans. It keeps no state,
+ * allocates nothing, and calls nothing of yours; any number of threads may call it at once, each
+ * with memory of its own.
  *
  * The sheet
  * ---------
@@ -122,7 +122,8 @@ uint64_t gz_barred(const uint8_t *sheet, size_t sheet_len, size_t number, uint64
 uint64_t gz_check(const uint8_t *sheet, size_t sheet_len, const uint16_t *plan, size_t plan_len,
                   uint64_t answer[2]);
 
-/* Finds a cheapest plan. Returns 0 if there is one, else 1 to 12, 18 or 19.
+/* Finds a cheapest plan: of all cheapest plans the one with the lowest cabinet for service 0, then
+ * for service 1, and so on. Returns 0 if there is one, else 1 to 12, 18 or 19.
  *   output, output_len    places for the plan, r or more. On success the first r hold the cabinet
  *                         of each service, in order. Other places stay as they are, and in a
  *                         refusal all do.

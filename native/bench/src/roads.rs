@@ -1,43 +1,117 @@
 //! The roads that are timed.
 
 use second::build::tight;
-use second::limits::NO_PARENT;
+use second::limits::{AMOUNT, NO_PARENT};
 use second::random::Random;
 use second::{Cabinet, Pair, Sheet, Stream};
 
+/// The form of a road's tree.
 #[derive(Clone, Copy, PartialEq)]
-pub enum Shape {
+enum Tree {
     Star,
     Chain,
-    Tree,
-    /// The same tree, with a quarter of all pairs barred.
+    Random,
+    /// Two chains whose numbers alternate.
+    Legs,
+}
+
+/// What the amounts of a road are like, and whether it has barred pairs.
+#[derive(Clone, Copy, PartialEq)]
+enum Manner {
+    /// Each cabinet holds some of the services, and each link carries some of the streams.
+    Usual,
+    /// The same, with a quarter of all pairs barred.
     Barred,
+    /// The same without them, with prices up to the largest, so that hardly any splits tie.
+    Wide,
+    /// Equal prices, free links, and room for everything everywhere: all that can tie does.
+    Tied,
+}
+
+/// A tree with a manner of amounts.
+#[derive(Clone, Copy, PartialEq)]
+pub struct Shape {
+    tree: Tree,
+    manner: Manner,
+}
+
+const fn shape(tree: Tree, manner: Manner) -> Shape {
+    Shape { tree, manner }
 }
 
 impl Shape {
-    pub const ALL: [Shape; 4] = [Shape::Star, Shape::Chain, Shape::Tree, Shape::Barred];
+    pub const ALL: [Shape; 9] = [
+        shape(Tree::Star, Manner::Usual),
+        shape(Tree::Chain, Manner::Usual),
+        shape(Tree::Random, Manner::Usual),
+        shape(Tree::Random, Manner::Barred),
+        shape(Tree::Legs, Manner::Wide),
+        shape(Tree::Star, Manner::Tied),
+        shape(Tree::Chain, Manner::Tied),
+        shape(Tree::Random, Manner::Tied),
+        shape(Tree::Legs, Manner::Tied),
+    ];
 
-    pub fn name(self) -> &'static str {
-        match self {
-            Shape::Star => "star",
-            Shape::Chain => "chain",
-            Shape::Tree => "random tree",
-            Shape::Barred => "random tree, barred",
+    pub fn name(self) -> String {
+        let tree = match self.tree {
+            Tree::Star => "star",
+            Tree::Chain => "chain",
+            Tree::Random => "random tree",
+            Tree::Legs => "two legs",
+        };
+        match self.manner {
+            Manner::Usual | Manner::Wide => tree.to_string(),
+            Manner::Barred => format!("{tree}, barred"),
+            Manner::Tied => format!("{tree}, all ties"),
+        }
+    }
+
+    /// The ratios of such roads are in the mean.
+    pub fn is_usual(self) -> bool {
+        self.manner == Manner::Usual
+    }
+
+    /// The numbers of cabinets that such roads are timed with.
+    pub fn cabinets(self) -> &'static [usize] {
+        match self.manner {
+            Manner::Usual | Manner::Barred => &[10, 50, 200],
+            Manner::Wide | Manner::Tied => &[200],
         }
     }
 
     fn parent(self, random: &mut Random, c: usize) -> u16 {
-        match self {
+        match self.tree {
             _ if c == 0 => NO_PARENT,
-            Shape::Star => 0,
-            Shape::Chain => c as u16 - 1,
-            Shape::Tree | Shape::Barred => random.below(c) as u16,
+            Tree::Star => 0,
+            Tree::Chain => c as u16 - 1,
+            Tree::Random => random.below(c) as u16,
+            Tree::Legs => c.saturating_sub(2) as u16,
         }
+    }
+
+    /// Capacity, price, and the four fields of the link of cabinet c.
+    fn amounts(self, random: &mut Random, c: usize) -> [u16; 6] {
+        if self.manner == Manner::Tied {
+            let link = if c == 0 { 0 } else { AMOUNT };
+            return [AMOUNT, 1, link, 0, link, 0];
+        }
+        let times = if self.manner == Manner::Wide { 100 } else { 1 };
+        let mut amount = |low, high| random.between(low, high) as u16;
+        let [capacity, price] = [amount(60, 300), amount(1, 100 * times)];
+        let [up, up_price, down, down_price] = match c {
+            0 => [0; 4],
+            _ => [
+                amount(100, 600),
+                amount(0, 20 * times),
+                amount(100, 600),
+                amount(0, 20 * times),
+            ],
+        };
+        [capacity, price, up, up_price, down, down_price]
     }
 }
 
-/// A road of this shape: each cabinet holds some of the services, and each link carries some of
-/// the 20 streams.
+/// A road of this shape with 20 streams.
 pub fn sheet(shape: Shape, services: usize, cabinets: usize) -> Vec<u8> {
     let mut random = Random::new(5);
     let mut amount = |low, high| random.between(low, high) as u16;
@@ -49,17 +123,7 @@ pub fn sheet(shape: Shape, services: usize, cabinets: usize) -> Vec<u8> {
     });
     let streams = streams.collect();
     let cabinet = |c: usize| {
-        let mut amount = |low, high| random.between(low, high) as u16;
-        let [capacity, price] = [amount(60, 300), amount(1, 100)];
-        let [up, up_price, down, down_price] = match c {
-            0 => [0; 4],
-            _ => [
-                amount(100, 600),
-                amount(0, 20),
-                amount(100, 600),
-                amount(0, 20),
-            ],
-        };
+        let [capacity, price, up, up_price, down, down_price] = shape.amounts(&mut random, c);
         let parent = shape.parent(&mut random, c);
         Cabinet::from_words([parent, capacity, price, up, up_price, down, down_price])
     };
@@ -67,8 +131,8 @@ pub fn sheet(shape: Shape, services: usize, cabinets: usize) -> Vec<u8> {
         services: demands,
         streams,
         cabinets: (0..cabinets).map(cabinet).collect(),
-        barred: match shape {
-            Shape::Barred => some_pairs(services, cabinets),
+        barred: match shape.manner {
+            Manner::Barred => some_pairs(services, cabinets),
             _ => vec![],
         },
     })

@@ -33,44 +33,71 @@ pub fn plan(
     let values = [right.group, right.cost, right.count];
     answer.expect(&within("answer"), &values)?;
     lent_sheet.expect_same(&within("sheet"))?;
-    let (places, entries) = used(sheet, refusal);
-    let written = output.inside()[..places].to_vec();
-    output.expect(&within("output"), &written)?;
+    let entries = used(sheet, refusal);
+    let plan = right.plan.unwrap_or_default();
+    output.expect(&within(&written(sheet, &output, &plan)), &plan)?;
     costs.expect(&within("cost table"), &vec![0; entries])?;
     choices.expect(&within("choice table"), &vec![0; entries])?;
-    if refusal == 0 {
-        let judged = second::check(sheet, &written);
-        if judged != Ok(right.cost) {
-            return Err(format!("{call}: the check says {judged:?} of {written:?}"));
-        }
-    }
     tally.answer("plan", refusal);
+    if right.ties > 0 {
+        tally.tie(is_large(sheet));
+    }
     Ok(())
 }
 
-/// The right answer; from the planner by rows where there are too many plans to try.
+/// The output's name, with what was written where the first plan should be, and what the check says
+/// of that.
+fn written(sheet: &[u8], output: &Guarded<u16>, plan: &[u16]) -> String {
+    let written = &output.inside()[..plan.len()];
+    match written == plan {
+        true => "output".to_string(),
+        false => {
+            let judged = second::check(sheet, written);
+            format!("the check says {judged:?} of {written:?}, the first plan is {plan:?}: output")
+        }
+    }
+}
+
+/// The sheet is accepted and has too many plans to try.
+fn is_large(sheet: &[u8]) -> bool {
+    second::read(sheet).is_ok_and(|records| plans(&records) > MOST_PLANS)
+}
+
+/// The right answer, from the planner that tries every plan or, for a large road, by least costs.
 fn right(sheet: &[u8], lent: Lent) -> Answer {
     let Lent {
         output,
         costs,
         choices,
     } = lent;
-    match second::read(sheet) {
-        Ok(records) if plans(&records) > MOST_PLANS => {
-            let (mut output, mut costs) = (vec![0; output], vec![0; costs]);
-            plain::plan(sheet, &mut output, &mut costs, &mut vec![0; choices])
-        }
-        _ => second::plan(sheet, output, costs, choices),
+    match is_large(sheet) {
+        true => by_least_costs(sheet, lent),
+        false => second::plan(sheet, output, costs, choices),
     }
 }
 
-/// The output places and the table entries that a call with this answer may change.
-fn used(sheet: &[u8], refusal: u64) -> (usize, usize) {
+/// The answer of the planner by rows, with the first plan in place of its own. If the two differ,
+/// there is a tie.
+fn by_least_costs(sheet: &[u8], lent: Lent) -> Answer {
+    let (mut output, mut costs) = (vec![0; lent.output], vec![0; lent.costs]);
+    let answer = plain::plan(sheet, &mut output, &mut costs, &mut vec![0; lent.choices]);
+    if answer.plan.is_none() {
+        return answer;
+    }
     let records = second::read(sheet).unwrap_or_default();
-    let r = records.services.len();
+    let plan = plain::first_plan(&records);
+    Answer {
+        ties: u64::from(plan != answer.plan),
+        plan,
+        ..answer
+    }
+}
+
+/// The table entries that a call with this answer may change.
+fn used(sheet: &[u8], refusal: u64) -> usize {
+    let records = second::read(sheet).unwrap_or_default();
     match refusal {
-        0 => (r, records.cabinets.len() << r),
-        12 => (0, records.cabinets.len() << r),
-        _ => (0, 0),
+        0 | 12 => records.cabinets.len() << records.services.len(),
+        _ => 0,
     }
 }

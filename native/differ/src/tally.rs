@@ -1,4 +1,4 @@
-//! Counts of cases by kind and of calls by answer.
+//! Counts of cases by kind, of calls by answer, and of plans that were not the only cheapest.
 
 use second::random::Case;
 use second::random::case::Origin;
@@ -10,6 +10,8 @@ pub struct Tally {
     cases: usize,
     kinds: BTreeMap<String, usize>,
     answers: BTreeMap<&'static str, BTreeMap<u64, usize>>,
+    tied: usize,
+    tied_large: usize,
 }
 
 impl Tally {
@@ -25,6 +27,25 @@ impl Tally {
     pub fn answer(&mut self, call: &'static str, answer: u64) {
         let answers = self.answers.entry(call).or_default();
         *answers.entry(answer).or_default() += 1;
+    }
+
+    /// Notes that other valid plans cost as much as one compared, on a road whose every plan was
+    /// tried or on a large one.
+    pub fn tie(&mut self, large: bool) {
+        match large {
+            true => self.tied_large += 1,
+            false => self.tied += 1,
+        }
+    }
+
+    /// How many plans compared had others of the same cost, on roads whose every plan was tried.
+    pub fn tied(&self) -> usize {
+        self.tied
+    }
+
+    /// How many are known to have had them on large roads.
+    pub fn tied_large(&self) -> usize {
+        self.tied_large
     }
 
     pub fn cases(&self) -> usize {
@@ -50,6 +71,8 @@ impl Display for Tally {
                 writeln!(f, "{times:9} {answer}")?;
             }
         }
-        Ok(())
+        writeln!(f, "plans of which others cost as much:")?;
+        writeln!(f, "{:9} on roads whose every plan was tried", self.tied)?;
+        writeln!(f, "{:9} on large roads, or more", self.tied_large)
     }
 }

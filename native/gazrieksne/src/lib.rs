@@ -52,7 +52,7 @@ pub struct Pair {
     pub cabinet: u64,
 }
 
-/// The cost of a cheapest plan and the count of splits weighed.
+/// The cost of the plan found and the count of splits weighed.
 #[derive(Clone, Copy, Debug, PartialEq, Eq)]
 pub struct Planned {
     pub cost: u64,
@@ -129,7 +129,8 @@ pub fn check(sheet: &[u8], plan: &[u16]) -> Result<u64, Refusal> {
     Refusal::of(number, group, 0).map_or(Ok(cost), Err)
 }
 
-/// Finds a cheapest plan. It is written to the first places of the output, one a service; the
+/// Finds a cheapest plan: of all cheapest plans the one with the lowest cabinet for service 0, then
+/// for service 1, and so on. It is written to the first places of the output, one a service; the
 /// tables are to work in, `Counts::entries` each.
 pub fn plan(
     sheet: &[u8],

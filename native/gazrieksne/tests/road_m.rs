@@ -66,8 +66,9 @@ fn check_and_plan() {
         count: 18,
     };
     assert_eq!(planned, Ok(right));
-    assert_eq!(gazrieksne::check(&m(), &output[..2]), Ok(15));
-    assert_eq!((output[2], costs[12], choices[12]), (9, 9, 9));
+    assert_eq!(gazrieksne::check(&m(), &[1, 2]), Ok(15));
+    assert_eq!(output, [0, 1, 9]);
+    assert_eq!((costs[12], choices[12]), (9, 9));
     assert_eq!((&costs[..12], &choices[..12]), (&[0; 12][..], &[0; 12][..]));
     let refusal = gazrieksne::plan(&m(), &mut [], &mut costs, &mut choices).unwrap_err();
     assert_eq!((refusal.number, refusal.group), (10, Group::Lender));

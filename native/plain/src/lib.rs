@@ -1,9 +1,13 @@
-//! The planner by rows of sets of services, in plain Rust: the measure for speed, and the answer
-//! for roads that have too many plans to try.
+//! The planner by rows of sets of services, in plain Rust: the measure for speed, and, with the
+//! first of the cheapest plans found beside it, the answer for roads that have too many plans to
+//! try.
 #![forbid(unsafe_code)]
 
 mod charges;
+mod first;
 mod join;
+
+pub use first::first_plan;
 
 use charges::Charges;
 use second::plan::lent;
@@ -12,8 +16,9 @@ use second::{Answer, Sheet, group, read};
 /// A figure that is no cost.
 pub const NONE: u64 = 1_000_000_000_000_001;
 
-/// Plans with lent tables, each with a row of 2^r entries for each cabinet. The plan goes to the
-/// first places of the output; the entries used are 0 afterwards.
+/// Plans with lent tables, each with a row of 2^r entries for each cabinet. A cheapest plan, which
+/// need not be the first, goes to the first places of the output; the entries used are 0
+/// afterwards.
 pub fn plan(sheet: &[u8], output: &mut [u16], costs: &mut [u64], choices: &mut [u16]) -> Answer {
     let sheet = match read(sheet) {
         Ok(sheet) => sheet,

@@ -4,7 +4,7 @@ use second::barred;
 use second::random::{Case, Random, Size, case};
 use second::{check, plan, read};
 
-/// The answers agree for every length lent; which cheapest plan is written is free.
+/// The answers agree for every length lent, but for which of the cheapest plans is written.
 fn agrees(case: &Case) {
     for lent in &case.lent {
         let mut output = vec![7; lent.output];
@@ -17,6 +17,7 @@ fn agrees(case: &Case) {
         }
         assert_eq!(answer.plan.is_some(), right.plan.is_some());
         right.plan = answer.plan.clone();
+        right.ties = 0;
         assert_eq!(answer, right, "{:?}", case.origin);
     }
 }

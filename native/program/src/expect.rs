@@ -1,6 +1,6 @@
 //! What the program must print for a sheet.
 
-use second::{Answer, check, plan};
+use second::{Answer, plan};
 
 /// The most bytes that the program takes.
 pub const MOST_BYTES: usize = 4096;
@@ -20,42 +20,24 @@ pub fn answer(sheet: &[u8]) -> Answer {
     plan(sheet, OUTPUT, ENTRIES, ENTRIES)
 }
 
-/// Whether the printed text gives this answer; which cheapest plan it names is free.
-pub fn agrees(sheet: &[u8], answer: &Answer, printed: &str) -> Result<(), String> {
-    if answer.refusal != 0 {
-        let line = format!("refused {}\n", answer.refusal);
-        return expect(printed == line, format!("should print {line:?}"));
+/// Whether the printed text gives this answer.
+pub fn agrees(answer: &Answer, printed: &str) -> Result<(), String> {
+    let text = text(answer);
+    match printed == text {
+        true => Ok(()),
+        false => Err(format!("should print {text:?}")),
     }
-    let head = format!("cost {}\nweighed {}\n", answer.cost, answer.count);
-    let Some(lines) = printed.strip_prefix(&head) else {
-        return Err(format!("should begin with {head:?}"));
+}
+
+/// What is printed for an answer: the refusal, or cost, count and a line for each service with its
+/// number and its cabinet.
+fn text(answer: &Answer) -> String {
+    let Some(plan) = &answer.plan else {
+        return format!("refused {}\n", answer.refusal);
     };
-    let places = places(lines)?;
-    let judged = check(sheet, &places);
-    expect(
-        judged == Ok(answer.cost),
-        format!("the check says {judged:?} of the plan {places:?}"),
-    )
-}
-
-fn expect(holds: bool, what: String) -> Result<(), String> {
-    if holds { Ok(()) } else { Err(what) }
-}
-
-/// The cabinets of lines that hold a service's number, a space and its cabinet, in order.
-fn places(lines: &str) -> Result<Vec<u16>, String> {
-    let mut places = vec![];
-    for (service, line) in lines.split_inclusive('\n').enumerate() {
-        let cabinet = line
-            .strip_prefix(&format!("{service} "))
-            .and_then(|rest| rest.strip_suffix('\n'))
-            .and_then(|number| number.parse::<u16>().ok());
-        match cabinet {
-            Some(cabinet) if line == format!("{service} {cabinet}\n") => places.push(cabinet),
-            _ => return Err(format!("the line {line:?} for service {service}")),
-        }
-    }
-    Ok(places)
+    let places = plan.iter().enumerate();
+    let lines: String = places.map(|(i, c)| format!("{i} {c}\n")).collect();
+    format!("cost {}\nweighed {}\n{lines}", answer.cost, answer.count)
 }
 
 #[cfg(test)]
@@ -68,7 +50,7 @@ mod tests {
     fn m0_to_the_letter() {
         let m0 = &roads()[2].sheet;
         let right = answer(m0);
-        assert!(agrees(m0, &right, "cost 15\nweighed 12\n0 1\n1 2\n").is_ok());
+        assert!(agrees(&right, "cost 15\nweighed 12\n0 1\n1 2\n").is_ok());
         for wrong in [
             "cost 15\nweighed 12\n0 1\n1 2",
             "cost 15\nweighed 12\n0 1\n1 2\n\n",
@@ -80,36 +62,36 @@ mod tests {
             "refused 12\n",
             "",
         ] {
-            assert!(agrees(m0, &right, wrong).is_err(), "{wrong:?}");
+            assert!(agrees(&right, wrong).is_err(), "{wrong:?}");
         }
     }
 
     #[test]
-    fn any_cheapest_plan_of_m() {
+    fn the_first_of_the_cheapest_plans_of_m() {
         let right = answer(&m());
-        assert!(agrees(&m(), &right, "cost 15\nweighed 18\n0 0\n1 1\n").is_ok());
-        assert!(agrees(&m(), &right, "cost 15\nweighed 18\n0 1\n1 2\n").is_ok());
-        assert!(agrees(&m(), &right, "cost 15\nweighed 18\n0 1\n1 0\n").is_err());
+        assert!(agrees(&right, "cost 15\nweighed 18\n0 0\n1 1\n").is_ok());
+        assert!(agrees(&right, "cost 15\nweighed 18\n0 1\n1 2\n").is_err());
+        assert!(agrees(&right, "cost 15\nweighed 18\n0 1\n1 0\n").is_err());
     }
 
     #[test]
     fn no_barred_pair() {
         let sheet = tight(&m_barred(&[[0, 0]]));
         let right = answer(&sheet);
-        assert!(agrees(&sheet, &right, "cost 15\nweighed 15\n0 1\n1 2\n").is_ok());
-        assert!(agrees(&sheet, &right, "cost 15\nweighed 15\n0 0\n1 1\n").is_err());
+        assert!(agrees(&right, "cost 15\nweighed 15\n0 1\n1 2\n").is_ok());
+        assert!(agrees(&right, "cost 15\nweighed 15\n0 0\n1 1\n").is_err());
         let cut = &sheet[..sheet.len() - 1];
-        assert!(agrees(cut, &answer(cut), "refused 3\n").is_ok());
+        assert!(agrees(&answer(cut), "refused 3\n").is_ok());
         let unnamed = tight(&m_barred(&[[0, 3]]));
-        assert!(agrees(&unnamed, &answer(&unnamed), "refused 19\n").is_ok());
-        assert!(agrees(&unnamed, &answer(&unnamed), "refused 18\n").is_err());
+        assert!(agrees(&answer(&unnamed), "refused 19\n").is_ok());
+        assert!(agrees(&answer(&unnamed), "refused 18\n").is_err());
     }
 
     #[test]
     fn refusals() {
         let right = answer(&[0; 4097]);
-        assert!(agrees(&[0; 4097], &right, "refused 17\n").is_ok());
-        assert!(agrees(&[0; 4097], &right, "refused 2\n").is_err());
+        assert!(agrees(&right, "refused 17\n").is_ok());
+        assert!(agrees(&right, "refused 2\n").is_err());
         assert_eq!(answer(&[0; 4096]).refusal, 2);
     }
 }

@@ -19,7 +19,7 @@ pub fn compare(program: &Path, cases: usize, seed: u64) -> Result<Counts, String
         let answer = expect::answer(&sheet);
         let printed = run::run(program, &sheet);
         let judged = match &printed {
-            Ok(text) => expect::agrees(&sheet, &answer, text),
+            Ok(text) => expect::agrees(&answer, text),
             Err(failure) => Err(failure.clone()),
         };
         if let Err(what) = judged {

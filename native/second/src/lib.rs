@@ -1,7 +1,8 @@
 //! A second reader, check and planner of planning sheets.
 //!
 //! It is written from the papers alone and is meant to be plainly right rather than fast: the
-//! planner tries every plan, and the splits weighed are counted by their definition.
+//! planner tries every plan in order and keeps the first of the cheapest, and the splits weighed
+//! are counted by their definition.
 #![forbid(unsafe_code)]
 
 pub mod barred;
@@ -19,6 +20,7 @@ pub mod read;
 pub mod refusal;
 pub mod sheet;
 pub mod splits;
+pub mod tied;
 pub mod weigh;
 
 pub use bound::bound;

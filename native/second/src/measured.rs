@@ -4,14 +4,15 @@ use crate::build::tight;
 use crate::limits::NO_PARENT;
 use crate::sheet::{Cabinet, Pair, Sheet, Stream};
 
-/// A road and what the planner answers for it: the refusal, the cost, and the count where the
-/// papers give it.
+/// A road and what the planner answers for it: the refusal, the cost, the count where the papers
+/// give it, and the plan, of no place in a refusal.
 pub struct Measured {
     pub name: &'static str,
     pub sheet: Vec<u8>,
     pub refusal: u64,
     pub cost: u64,
     pub count: Option<u64>,
+    pub plan: &'static [u16],
 }
 
 /// Road M, word by word.
@@ -88,24 +89,32 @@ fn least() -> Sheet {
 
 /// All measured roads.
 pub fn roads() -> Vec<Measured> {
-    let road = |name, sheet: Sheet, refusal, cost, count| Measured {
+    let road = |name, sheet: Sheet, refusal, cost, count, plan| Measured {
         name,
         sheet: tight(&sheet),
         refusal,
         cost,
         count,
+        plan,
     };
     let nowhere = m_barred(&[[0, 0], [0, 1], [0, 2]]);
     vec![
-        road("M", m_records(), 0, 15, Some(18)),
-        road("M, root capacity 3", m_with(3, 6), 0, 15, Some(17)),
-        road("M0", m_with(0, 6), 0, 15, Some(12)),
-        road("M0, up capacity 3", m_with(0, 3), 0, 15, Some(12)),
-        road("M0, up capacity 2", m_with(0, 2), 12, 0, Some(10)),
-        road("Z", z(), 0, 12, None),
-        road("root with one child", one_child(), 0, 3, Some(3)),
-        road("30 bytes", least(), 0, 0, Some(0)),
-        road("M, (0,0) barred", m_barred(&[[0, 0]]), 0, 15, Some(15)),
-        road("M, service 0 barred", nowhere, 12, 0, Some(12)),
+        road("M", m_records(), 0, 15, Some(18), &[0, 1]),
+        road("M, root capacity 3", m_with(3, 6), 0, 15, Some(17), &[0, 1]),
+        road("M0", m_with(0, 6), 0, 15, Some(12), &[1, 2]),
+        road("M0, up capacity 3", m_with(0, 3), 0, 15, Some(12), &[1, 2]),
+        road("M0, up capacity 2", m_with(0, 2), 12, 0, Some(10), &[]),
+        road("Z", z(), 0, 12, None, &[1, 2, 0]),
+        road("root with one child", one_child(), 0, 3, Some(3), &[0]),
+        road("30 bytes", least(), 0, 0, Some(0), &[]),
+        road(
+            "M, (0,0) barred",
+            m_barred(&[[0, 0]]),
+            0,
+            15,
+            Some(15),
+            &[1, 2],
+        ),
+        road("M, service 0 barred", nowhere, 12, 0, Some(12), &[]),
     ]
 }

@@ -1,4 +1,5 @@
-//! The planner: tries every plan and keeps a cheapest valid one.
+//! The planner: tries every plan in order, the lowest cabinet for service 0 first, then for service
+//! 1, and so on, and keeps the first of the cheapest valid ones.
 
 use crate::bars::Bars;
 use crate::check::judge;
@@ -18,8 +19,11 @@ pub struct Answer {
     pub group: u64,
     pub cost: u64,
     pub count: u64,
-    /// A cheapest plan, on success.
+    /// The first of the cheapest plans, on success.
     pub plan: Option<Vec<u16>>,
+    /// How many other valid plans are known to cost as much: all of them where every plan was
+    /// tried.
+    pub ties: u64,
 }
 
 impl Answer {
@@ -74,25 +78,31 @@ pub fn solve(sheet: &Sheet) -> Answer {
     let count = splits::count(sheet, &paths);
     match cheapest(sheet, &paths) {
         None => Answer::refused(12, count),
-        Some((cost, plan)) => Answer {
-            cost,
+        Some(cheapest) => Answer {
+            cost: cheapest.cost,
             count,
-            plan: Some(plan),
+            plan: Some(cheapest.first),
+            ties: cheapest.later,
             ..Answer::default()
         },
     }
 }
 
-/// The first of the cheapest valid plans and its cost.
-fn cheapest(sheet: &Sheet, paths: &Paths) -> Option<(u64, Vec<u16>)> {
+/// The least cost of a valid plan, the first plan of that cost, and how many come after it.
+struct Cheapest {
+    cost: u64,
+    first: Vec<u16>,
+    later: u64,
+}
+
+/// The cheapest valid plans, if there is a valid one.
+fn cheapest(sheet: &Sheet, paths: &Paths) -> Option<Cheapest> {
     let bars = Bars::new(sheet);
-    let mut best: Option<(u64, Vec<u16>)> = None;
+    let mut best: Option<Cheapest> = None;
     let mut plan = vec![0; sheet.services.len()];
     loop {
-        if let Ok(cost) = judge(sheet, &bars, &plan, |a, b| paths.between(a, b))
-            && best.as_ref().is_none_or(|(least, _)| cost < *least)
-        {
-            best = Some((cost, plan.clone()));
+        if let Ok(cost) = judge(sheet, &bars, &plan, |a, b| paths.between(a, b)) {
+            best = Some(settle(best, cost, &plan));
         }
         if !advance(&mut plan, sheet.cabinets.len()) {
             return best;
@@ -100,9 +110,26 @@ fn cheapest(sheet: &Sheet, paths: &Paths) -> Option<(u64, Vec<u16>)> {
     }
 }
 
-/// The next list of numbers below `base`, or false behind the last.
+/// The cheapest plans with one more valid plan, which comes after all of them.
+fn settle(best: Option<Cheapest>, cost: u64, plan: &[u16]) -> Cheapest {
+    match best {
+        Some(best) if best.cost < cost => best,
+        Some(best) if best.cost == cost => Cheapest {
+            later: best.later + 1,
+            ..best
+        },
+        _ => Cheapest {
+            cost,
+            first: plan.to_vec(),
+            later: 0,
+        },
+    }
+}
+
+/// The next list of numbers below `base`, the first place being the most significant; false behind
+/// the last.
 pub fn advance(places: &mut [u16], base: usize) -> bool {
-    for place in places {
+    for place in places.iter_mut().rev() {
         *place += 1;
         if usize::from(*place) < base {
             return true;

@@ -31,18 +31,21 @@ fn planner_on_all_measured_roads() {
         if let Some(count) = road.count {
             assert_eq!(answer.count, count, "{}", road.name);
         }
-        if let Some(plan) = answer.plan {
-            assert_eq!(check(&road.sheet, &plan), Ok(road.cost), "{}", road.name);
+        if road.refusal == 0 {
+            assert_eq!(check(&road.sheet, road.plan), Ok(road.cost));
         }
+        assert_eq!(answer.plan.unwrap_or_default(), road.plan, "{}", road.name);
     }
 }
 
 #[test]
-fn the_only_plan_of_m0_and_the_root_of_z() {
+fn how_many_plans_tie_on_m_m0_and_z() {
     let m0 = &roads()[2].sheet;
-    assert_eq!(plan(m0, 2, 12, 12).plan, Some(vec![1, 2]));
-    let answer = plan(&tight(&z()), 3, 24, 24);
-    assert_eq!(answer.plan.map(|p| p[2]), Some(0));
+    assert_eq!(plan(&m(), 2, 12, 12).ties, 1);
+    assert_eq!(plan(m0, 2, 12, 12).ties, 0);
+    // Services 0 and 1 can change places.
+    assert_eq!(plan(&tight(&z()), 3, 24, 24).ties, 1);
+    assert_eq!(check(&tight(&z()), &[2, 1, 0]), Ok(12));
 }
 
 #[test]

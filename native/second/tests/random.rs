@@ -1,8 +1,11 @@
 //! The random cases reach every refusal, and accepted ones read back as they were written.
 
 use second::bars::Bars;
+use second::build::tight;
+use second::plan::solve;
 use second::random::damage::{Damage, damage};
-use second::random::{Random, Size, case, layout::layout, road::road};
+use second::random::road::{Kind, of_kind, road};
+use second::random::{Random, Size, case, layout::layout, tied};
 use second::{Sheet, build, check, plan, read};
 use std::collections::BTreeMap;
 
@@ -73,7 +76,7 @@ fn manners(sheet: &Sheet, block: bool) -> Vec<&'static str> {
 fn barred_pairs_in_every_manner() {
     let mut random = Random::new(3);
     let mut seen: BTreeMap<&str, usize> = BTreeMap::new();
-    for _ in 0..4000 {
+    for _ in 0..8000 {
         let (_, sheet) = road(&mut random, SIZE);
         let block = layout(&mut random, &sheet).offsets[3] != 0;
         for manner in manners(&sheet, block) {
@@ -95,4 +98,39 @@ fn damage_to_barred_pairs_is_refused() {
         }
     }
     assert!(times > 100, "{times} times");
+}
+
+/// The numbers of roads of a kind and of those among them with several cheapest plans.
+#[test]
+fn the_kinds_that_tie_do() {
+    let mut random = Random::new(6);
+    let mut seen: BTreeMap<Kind, [usize; 2]> = BTreeMap::new();
+    for _ in 0..4000 {
+        let (kind, sheet) = road(&mut random, SIZE);
+        if tied::KINDS.contains(&kind) {
+            let [roads, with_ties] = seen.entry(kind).or_default();
+            *roads += 1;
+            *with_ties += usize::from(solve(&sheet).ties > 0);
+        }
+    }
+    assert_eq!(seen.len(), 7, "{seen:?}");
+    for [roads, with_ties] in seen.values() {
+        assert!(*roads > 80 && 5 * with_ties > *roads, "{seen:?}");
+    }
+}
+
+#[test]
+fn cabinets_numbered_anew_keep_their_order_and_their_cost() {
+    let mut random = Random::new(7);
+    let mut moved = 0;
+    for _ in 0..1000 {
+        let mut sheet = of_kind(&mut random, Kind::Small, SIZE);
+        sheet.barred.clear();
+        let before = sheet.clone();
+        tied::renumber(&mut random, &mut sheet);
+        assert_eq!(read(&tight(&sheet)).as_ref(), Ok(&sheet));
+        assert_eq!(solve(&sheet).cost, solve(&before).cost);
+        moved += usize::from(sheet != before);
+    }
+    assert!(moved > 100, "{moved} roads with other numbers");
 }

@@ -7,18 +7,20 @@ mod check;
 mod fault;
 mod figures;
 mod fourth;
+mod keys;
 mod loads;
 mod planner;
 mod reader;
 mod rows;
 mod subject;
+mod ties;
 
 pub use fault::Fault;
 pub use subject::Faulty;
 
 use differ::{Tally, compare, compare_bounds};
-use second::barred;
 use second::random::{Random, Size, case};
+use second::{barred, tied};
 
 /// The sizes of the random roads.
 const SIZE: Size = Size {
@@ -26,9 +28,9 @@ const SIZE: Size = Size {
     cabinets: 6,
 };
 
-/// Compares up to so many random cases, then those written down for barred pairs, then the bound for
-/// all numbers around the limits. Gives the first case that shows a difference, and the first line
-/// of what it shows.
+/// Compares up to so many random cases, then those written down for barred pairs and for ties, then
+/// the bound for all numbers around the limits. Gives the first case that shows a difference, and
+/// the first line of what it shows.
 pub fn first_difference(fault: Option<Fault>, cases: usize, seed: u64) -> Option<(String, String)> {
     let subject = Faulty(fault);
     let mut random = Random::new(seed);
@@ -39,9 +41,11 @@ pub fn first_difference(fault: Option<Fault>, cases: usize, seed: u64) -> Option
             return Some((number.to_string(), first_line(&what)));
         }
     }
-    for directed in barred::all() {
-        if let Err(what) = compare(&subject, &directed.case(), &mut random, &mut tally) {
-            return Some((directed.name.to_string(), first_line(&what)));
+    let barred = barred::all().into_iter().map(|d| (d.name, d.case()));
+    let tied = tied::all().into_iter().map(|t| (t.name, t.case()));
+    for (name, case) in barred.chain(tied) {
+        if let Err(what) = compare(&subject, &case, &mut random, &mut tally) {
+            return Some((name.to_string(), first_line(&what)));
         }
     }
     compare_bounds(&subject, &mut random, &mut tally)

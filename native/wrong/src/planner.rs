@@ -100,6 +100,7 @@ impl Faulty {
             choices: (0..s)
                 .map(|c| (0..n).map(|x| choice(c * n + x)).collect())
                 .collect(),
+            keys: vec![vec![]; s],
             count: 0,
         };
         self.fill(sheet, &mut rows);
@@ -166,6 +167,9 @@ impl Faulty {
                     && below.len() > 2
                     && sheet.services[service] == 0;
                 *place = if extra { s as u16 } else { p as u16 };
+                if self.has(Fault::PlanIdleOnRoot) && sheet.services[service] == 0 {
+                    *place = 0;
+                }
             }
         }
         if self.has(Fault::PlanOnRoot) {

@@ -1,6 +1,8 @@
 //! The rows of the planner and their faults.
 
+use crate::keys::Key;
 use crate::loads::one_a_pair;
+use crate::ties::{Best, Split};
 use crate::{Fault, Faulty};
 use second::path::Paths;
 use second::splits::{count_over, part_before};
@@ -9,10 +11,12 @@ use second::{Sheet, Stream};
 /// A figure that is no cost.
 pub const NONE: u64 = 1_000_000_000_000_001;
 
-/// Costs and choices, a row of sets for each cabinet, and the count.
+/// Costs, choices, and the keys of what the choices give each set, a row of sets for each cabinet;
+/// and the count.
 pub struct Rows {
     pub costs: Vec<Vec<u64>>,
     pub choices: Vec<Vec<usize>>,
+    pub keys: Vec<Vec<Key>>,
     pub count: u64,
 }
 
@@ -32,6 +36,7 @@ impl Faulty {
             let mut below = children(sheet, p);
             let barred = self.barred_at(sheet, &bars, p);
             self.own(sheet, p, below.is_empty(), barred, &mut rows.costs[p]);
+            rows.keys[p] = self.own_keys(sheet, p);
             if self.has(Fault::PlanFallingChildren) {
                 below.reverse();
             }
@@ -139,39 +144,60 @@ impl Faulty {
     fn join(&self, sheet: &Sheet, p: usize, c: usize, rows: &mut Rows) {
         let n = 1 << sheet.services.len();
         let link: Vec<u64> = (0..n).map(|set| self.link(sheet, c, set, n - 1)).collect();
+        let keys = self.child_keys(rows, p, c);
         let sets: Vec<usize> = match self.has(Fault::PlanRisingSets) {
             true => (0..n).collect(),
             false => (0..n).rev().collect(),
         };
         for set in sets {
-            let (mut best, mut choice) = (NONE, 0);
-            for a in (0..=set).filter(|a| a & !set == 0) {
-                let left_out = a == 0 && self.has(Fault::PlanWithoutEmpty)
-                    || a == set && self.has(Fault::PlanWithoutFull);
-                if left_out {
-                    continue;
-                }
-                let (placed, rest) = (rows.costs[p][a], rows.costs[c][set & !a]);
-                let charge = match self.has(Fault::PlanOuterStreams) {
-                    true => self.link(sheet, c, set & !a, set),
-                    false => link[set & !a],
-                };
-                let whole = placed < NONE && rest < NONE && charge < NONE;
-                let sum = if whole { placed + rest + charge } else { NONE };
-                let better = sum < best && !(self.has(Fault::PlanFirstFound) && best < NONE);
-                rows.count += u64::from(match self.0 {
-                    Some(Fault::PlanCountSums) => whole,
-                    Some(Fault::PlanCountBest) => better,
-                    _ => placed < NONE,
-                });
-                if better {
-                    (best, choice) = (sum, a);
-                }
+            let charge = |rest: usize| match self.has(Fault::PlanOuterStreams) {
+                true => self.link(sheet, c, rest, set),
+                false => link[rest],
+            };
+            let best = self.best_split(rows, [p, c], set, &keys, charge);
+            rows.costs[p][set] = best.cost;
+            if !self.has(Fault::KeyNotRenewed) {
+                rows.keys[p][set] = best.key;
             }
-            rows.costs[p][set] = best;
-            if choice != 0 || !self.has(Fault::PlanOldChoices) {
-                rows.choices[c][set] = choice;
+            if best.stays != 0 || !self.has(Fault::PlanOldChoices) {
+                rows.choices[c][set] = best.stays;
             }
         }
+    }
+
+    /// The best split of a set between p and c, with what c's link charges for the rest. The set
+    /// that stays falls.
+    fn best_split(
+        &self,
+        rows: &mut Rows,
+        [p, c]: [usize; 2],
+        set: usize,
+        keys: &[Key],
+        charge: impl Fn(usize) -> u64,
+    ) -> Split {
+        let mut best = Best::none();
+        for stays in (0..=set).rev().filter(|a| a & !set == 0) {
+            let left_out = stays == 0 && self.has(Fault::PlanWithoutEmpty)
+                || stays == set && self.has(Fault::PlanWithoutFull);
+            if left_out {
+                continue;
+            }
+            let rest = set & !stays;
+            let figures = [rows.costs[p][stays], rows.costs[c][rest], charge(rest)];
+            let whole = figures.iter().all(|&figure| figure < NONE);
+            let without_none = figures.iter().filter(|&&figure| figure < NONE).sum();
+            let split = Split {
+                stays,
+                cost: if whole { without_none } else { NONE },
+                key: self.split_key(rows.keys[p][stays], keys[rest]),
+            };
+            let better = self.take(p, &mut best, split, without_none);
+            rows.count += u64::from(match self.0 {
+                Some(Fault::PlanCountSums) => whole,
+                Some(Fault::PlanCountBest) => better,
+                _ => figures[0] < NONE,
+            });
+        }
+        best.split
     }
 }

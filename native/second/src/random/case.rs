@@ -104,7 +104,8 @@ fn some_plan(random: &mut Random, sheet: &Sheet) -> Vec<u16> {
     plan
 }
 
-/// A cheapest plan of a small road, if it has one, and the same with one service moved.
+/// The first of the cheapest plans of a small road, if it has one, and the same with one service
+/// moved.
 fn neighbours(random: &mut Random, sheet: &Sheet) -> Vec<Vec<u16>> {
     if plans(sheet) > MOST_PLANS.min(20_000) {
         return vec![];

@@ -8,6 +8,7 @@ pub mod layout;
 pub mod misplaced;
 pub mod road;
 pub mod source;
+pub mod tied;
 
 pub use case::{Case, Lent, Size, case};
 pub use source::Random;

@@ -4,6 +4,7 @@ use super::Random;
 use super::amounts::{Scale, ample, capacities, just_enough, one_less, prices};
 use super::bars::bars;
 use super::case::Size;
+use super::tied::{self, renumber, room, tie, tied};
 use crate::limits::{NO_PARENT, SERVICES, STREAMS};
 use crate::sheet::{Cabinet, Sheet, Stream};
 
@@ -32,6 +33,20 @@ pub enum Kind {
     Extreme,
     /// Up to 10 services, 200 cabinets and 100 streams: too many plans to try.
     Large,
+    /// One price for all cabinets, and one for all links.
+    Equal,
+    /// Free links of the largest capacity.
+    FreeLinks,
+    /// Two prices.
+    FewPrices,
+    /// Many services of demand 0.
+    Idle,
+    /// Two legs with alternating numbers.
+    Legs,
+    /// Two subtrees alike, with their numbers mixed.
+    Twins,
+    /// Six services or more on few cabinets, with few prices.
+    Many,
 }
 
 /// The kinds that are common, each as often as it stands here.
@@ -62,10 +77,11 @@ const KINDS: [Kind; 24] = [
     Kind::Small,
 ];
 
-/// A road no larger than the size, and its kind.
+/// A road no larger than the size, and its kind: once in four times one of those that tie.
 pub fn road(random: &mut Random, size: Size) -> (Kind, Sheet) {
     let kind = match random.below(400) {
         0 => Kind::Long,
+        1..=100 => random.pick(&tied::KINDS),
         _ => random.pick(&KINDS),
     };
     (kind, of_kind(random, kind, size))
@@ -90,6 +106,7 @@ fn unbarred(random: &mut Random, kind: Kind, size: Size) -> Sheet {
         Kind::Crowd => crowd(random),
         Kind::Long => long(random),
         Kind::Large => large(random),
+        _ => tied(random, kind, size),
     }
 }
 
@@ -127,9 +144,14 @@ fn some_streams(random: &mut Random, r: usize, q: usize, scale: Scale) -> Vec<St
     (0..q).map(|_| stream()).collect()
 }
 
-/// Amounts at random, sometimes with ample capacities.
+/// A road no larger than the size, with amounts at random.
 fn plain(random: &mut Random, size: Size, scale: Scale) -> Sheet {
     let (r, s) = size.draw(random);
+    of_numbers(random, r, s, scale)
+}
+
+/// A road of so many services and cabinets with amounts at random, sometimes with ample capacities.
+pub fn of_numbers(random: &mut Random, r: usize, s: usize, scale: Scale) -> Sheet {
     let q = random.below(6);
     let mut sheet = Sheet {
         services: (0..r).map(|_| scale.amount(random)).collect(),
@@ -241,7 +263,8 @@ fn long(random: &mut Random) -> Sheet {
     sheet
 }
 
-/// A road of many cabinets, with capacities that leave several plans or just one.
+/// A road of many cabinets, with capacities that leave several plans or just one, every other time
+/// with prices that tie.
 fn large(random: &mut Random) -> Sheet {
     let r = random.between(5, SERVICES);
     let s = random.pick(&[20, 64, 199, 200]);
@@ -254,9 +277,15 @@ fn large(random: &mut Random) -> Sheet {
         barred: vec![],
     };
     prices(random, scale, &mut sheet.cabinets);
-    match random.below(3) {
+    if random.once_in(2) {
+        let kind = random.pick(&[Kind::Equal, Kind::FreeLinks, Kind::FewPrices]);
+        tie(random, kind, &mut sheet);
+        renumber(random, &mut sheet);
+    }
+    match random.below(4) {
         0 => ample(&mut sheet.cabinets),
         1 => capacities(random, scale, &mut sheet.cabinets),
+        2 => room(random, &mut sheet),
         _ => just_enough(random, &mut sheet),
     }
     sheet
