@@ -4,9 +4,12 @@ use native.Mathlib.Nat.{mul-le-mul, mul-le-mul-right, pow-le-pow-right}
 use native.Mathlib.Omega.{arith}
 use native.Mathlib.Decide.{decLt}
 use mathlib.Core.Path.{_≡_, sym, ap, _∙_, subst}
-use mathlib.Core.Bool.{true}
+use mathlib.Core.Bool.{true, false}
 use mathlib.Core.List.{List}
 use lib.Bits.{bitAnd}
+use lib.Dec.{ltb}
+use borrow.Author.Tests.{lt-ltb, eq-eqb}
+use Rattle.finite.proofs.Booleans.{clash, both}
 use lib.ListN.{length, getD}
 use Rattle.subsets.specs.Inner.Net.{Net}
 use Rattle.subsets.specs.Inner.Rows.{child}
@@ -16,7 +19,7 @@ use Rattle.subsets.specs.declared.Key.{Key}
 use Rattle.subsets.proofs.Sets.{sub-and, sub-le}
 use Rattle.subsets.proofs.Rows.{child-parent}
 use Rattle.subsets.proofs.First.{low-above, high-above}
-use Rattle.subsets.proofs.KeyRows.{key-empty, key-last-child, key-no-child, key-small, last-child-is}
+use Rattle.subsets.proofs.KeyRows.{key-empty, key-last-child, key-no-child, key-small, last-child-none, last-child-is}
 use Rattle.sheet.specs.Limits.{max-services, max-cabinets}
 use Rattle.rows.specs.Charges.{max-sets}
 use Rattle.rows.specs.Keys as key-rows
@@ -87,6 +90,18 @@ module _ (N : Net) (size : ℕ) (u last prior weights : List ℕ) (R : Readable 
     omega (arith, part-limit, key-small N (others (N .r)) (entry size u) (R .falls) (base ^ low-digits) (low-above base N (omega arith) (R .nodes) low-digits (omega arith)) p j x hp hj),
   )
 
+  -- the last child of a node is a node, or 0, which is one too
+  pub last-in : (p : ℕ) → p < N .s → getD last p 0 < N .s
+  last-in p h = omega (arith, R .links .lasts p h, last-lt N p (N .s) (omega arith) (omega arith))
+
+  -- no child comes after it
+  pub after-last : (p d : ℕ) → p < N .s → getD last p 0 < d → d < N .s → N .parent d ≡ p → ⊥
+  after-last p d h l m e = clash (sym (both (ltb 0 d) _ (lt-ltb 0 d (omega arith)) (eq-eqb (N .parent d) p e)) ∙ go (decLt 0 (last-child N p (N .s))))
+    where
+      go : Dec (0 < last-child N p (N .s)) → child N p d ≡ false
+      go (yes z) = last-child-is N p (N .s) z .2 d (omega (arith, R .links .lasts p h)) m
+      go (no z) = last-child-none N p (N .s) (omega arith) d m
+
   module _ (k p c₀ x : ℕ) (B : Started N size k p c₀ x) where
     pub begin : Going N u size k p x 0 0 p c₀ x
     begin = record {
@@ -129,7 +144,7 @@ module _ (N : Net) (size : ℕ) (u last prior weights : List ℕ) (R : Readable 
           go (no l) = omega arith
 
       pub last-small : 0 < c → getD last c 0 < max-cabinets
-      last-small z = omega (arith, R .links .lasts c (is-child z .1), last-lt N c (N .s) (omega (arith, G .node)) (omega arith), R .nodes)
+      last-small z = omega (arith, last-in c (is-child z .1), R .nodes)
 
       -- what is left here, and what goes to the child
       split : (y : ℕ → ℕ) (sum : ℕ) → sum + part N y size u here (G .bound) set ≡ part N y size u p k x → (stays : ℕ) → 0 < c → stays ≡ bitAnd (entry size u c set) set

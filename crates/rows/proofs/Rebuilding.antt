@@ -1,5 +1,5 @@
 -- A row rebuilt: its own charges and keys, then child by child, whatever the tables hold.
-use Prim.Native.Nat.{ℕ, suc, _+_, _-_, _*_, _/_, _%_, _^_, _≤_, _<_}
+use Prim.Native.Nat.{ℕ, zero, suc, _+_, _-_, _*_, _/_, _%_, _^_, _≤_, _<_}
 use native.Mathlib.Nat.{mul-le-mul, mul-le-mul-right}
 use native.Mathlib.Numerals.{add-one}
 use native.Mathlib.Omega.{arith}
@@ -30,7 +30,7 @@ use Rattle.rows.specs.Reads.{Weighted, Readable}
 use Rattle.rows.specs.Joins.{Small}
 use Rattle.rows.specs.Rebuilds as rebuilds
 use Rattle.rows.specs.Rebuilds.{entry, back-key, key-entry, RowSet, KeysSet, link-figures, source, Rebuilds, JoinsChild, JoinRoom, RebuildRoom, Kept}
-use Rattle.rows.specs.Cabinets.{field, own-in, link-in, parent-of, own-of, link-of}
+use Rattle.rows.specs.Cabinets.{field, parent-of, own-of, link-of}
 use Rattle.records.specs.declared.Records.{Records}
 use Rattle.rows.proofs.Joining.{counted-le}
 use Rattle.rows.proofs.Weighing.{set-weight-le}
@@ -45,12 +45,18 @@ unfolding only
 field-at n l i h = rw (lt-ltb i n h) refl
 
 -- a cabinet that is there, and the link above it
-pub own-there : (k : Records) (c : ℕ) → c < k .cabinets → own-in (k .capacity) (k .price) (k .barred) c ≡ own-of k c
+pub own-there : (k : Records) (c : ℕ) → c < k .cabinets
+    → record { capacity = getD (k .capacity) c 0; price = getD (k .price) c 0; barred = getD (k .barred) c 0 } ≡ own-of k c
 unfolding own-of only
 own-there k c h = rw (lt-ltb c (k .cabinets) h) refl
 
 pub link-there : (k : Records) (c : ℕ) → c < k .cabinets
-    → link-in (k .«up_capacity») (k .«up_price») (k .«down_capacity») (k .«down_price») c ≡ link-of k c
+    → record {
+      «up_capacity» = getD (k .«up_capacity») c 0;
+      «up_price» = getD (k .«up_price») c 0;
+      «down_capacity» = getD (k .«down_capacity») c 0;
+      «down_price» = getD (k .«down_price») c 0;
+    } ≡ link-of k c
 unfolding link-of only
 link-there k c h = rw (lt-ltb c (k .cabinets) h) refl
 
@@ -246,6 +252,18 @@ module _ (sums : List ℕ) {k : Records} {size p : ℕ} {t u : List ℕ} (R : Re
         go : (b x : ℕ) → b < suc c → S .child b ≡ true → x < size → (s : Bool) → eqb b c ≡ s → entry size u₂ b x ≡ rebuilt-choice S b x
         go b x i e h true y = subst (λ (z : ℕ). entry size u₂ z x ≡ rebuilt-choice S z x) (sym (eqb-true b c y)) (J .choices .row x h ∙ ap (λ (b : Best). b .chosen) (same x h))
         go b x i e h false y = let z = eqb-false b c y in J .choices .rest b x z h ∙ B .chosen b x (omega (arith, z)) e h
+
+  -- no cabinet from c on is a child: all are passed over, and the row is rebuilt
+  pub children-end : {t₁ u₁ g₁ : List ℕ} {n c : ℕ} → Children S size p q c (k .cabinets) t t₁ u u₁ g g₁ n → ((d : ℕ) → c ≤ d → d < k .cabinets → parent-of k d ≡ p → ⊥)
+      → Rebuilds S size p q (k .cabinets) t t₁ u u₁ g g₁ n
+  children-end {t₁} {u₁} {g₁} {n} {c} C none =
+      subst (λ (e : ℕ). Rebuilds S size p q e t t₁ u u₁ g g₁ n) (let z : c + (k .cabinets - c) ≡ k .cabinets = omega (arith, C .within) in z) (go (k .cabinets - c) (omega (arith, C .within)) .rebuilds)
+    where
+      go : (j : ℕ) → c + j ≤ k .cabinets → Children S size p q (c + j) (k .cabinets) t t₁ u u₁ g g₁ n
+      go zero h = subst (λ (e : ℕ). Children S size p q e (k .cabinets) t t₁ u u₁ g g₁ n) (let z : c ≡ c + 0 = omega arith in z) C
+      go (suc j) h =
+          subst (λ (e : ℕ). Children S size p q e (k .cabinets) t t₁ u u₁ g g₁ n) (let z : c + j + 1 ≡ c + suc j = omega arith in z)
+          (children-pass (go j (omega arith)) (omega arith) (none (c + j) (omega arith) (omega arith)))
 
 -- ---- the keys of a child that is to be joined, and of the row so far
 

@@ -17,20 +17,6 @@ field n l i = only (ltb i n) (getD l i 0)
 abbrev pub parent-of : Records → ℕ → ℕ
 parent-of k c = field (k .cabinets) (k .parent) c
 
--- what cabinet c lets in, from the columns of records
-abbrev pub own-in : List ℕ → List ℕ → List ℕ → ℕ → Own
-own-in capacity price barred c = record { capacity = getD capacity c 0; price = getD price c 0; barred = getD barred c 0 }
-
--- what the link above cabinet c lets through, from the columns of records
-abbrev pub link-in : List ℕ → List ℕ → List ℕ → List ℕ → ℕ → Link
-link-in up-capacity up-price down-capacity down-price c =
-    record {
-      «up_capacity» = getD up-capacity c 0;
-      «up_price» = getD up-price c 0;
-      «down_capacity» = getD down-capacity c 0;
-      «down_price» = getD down-price c 0;
-    }
-
 -- what cabinet c lets in
 unfoldable pub own-of : Records → ℕ → Own
 own-of k c =

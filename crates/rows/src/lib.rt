@@ -1,8 +1,7 @@
 // The rows of the planner's two tables rebuilt: each its own charges, then its children joined. For any records and tables.
 ghost use mathlib.Core.Path.{_≡_};
 ghost use Prim.Native.Nat.{_%_, _^_, _≤_, _<_};
-ghost use Rattle.sheet.specs.Limits.{max-services, max-cabinets};
-ghost use Rattle.rows.specs.Cabinets.{own-in, link-in};
+ghost use Rattle.sheet.specs.Limits.{max-services};
 ghost use Rattle.rows.specs.Keys.{tree};
 ghost use Rattle.rows.specs.Reads.{Readable};
 ghost use Rattle.rows.specs.Rebuilds.{source, has-rows, RebuildRoom, Scratch, Kept, Rebuilds, FillRoom, Fills, FillsRows, RootKey};
@@ -58,42 +57,6 @@ fn index(x: u16) -> usize
     x as usize
 }
 
-// What cabinet c lets in, from the columns of the records. (Lent one by one, since records given by value are copied.)
-fn own_at<'a>(
-    capacity: &'a [u16; Sheet::MAX_CABINETS],
-    price: &'a [u16; Sheet::MAX_CABINETS],
-    barred: &'a [u16; Sheet::MAX_CABINETS],
-    c: usize,
-) -> Own
-    requires { ⌜ c < max-cabinets ⌝ }
-    ensures { λ k. ⌜ k ≡ own-in (now (capacity .entry)) (now (price .entry)) (now (barred .entry)) c ⌝ }
-{
-    Own {
-        capacity: capacity[c],
-        price: price[c],
-        barred: barred[c],
-    }
-}
-
-// What the link above cabinet c lets through, in the same way.
-fn link_at<'a>(
-    up_capacity: &'a [u16; Sheet::MAX_CABINETS],
-    up_price: &'a [u16; Sheet::MAX_CABINETS],
-    down_capacity: &'a [u16; Sheet::MAX_CABINETS],
-    down_price: &'a [u16; Sheet::MAX_CABINETS],
-    c: usize,
-) -> Link
-    requires { ⌜ c < max-cabinets ⌝ }
-    ensures { λ k. ⌜ k ≡ link-in (now («up_capacity» .entry)) (now («up_price» .entry)) (now («down_capacity» .entry)) (now («down_price» .entry)) c ⌝ }
-{
-    Link {
-        up_capacity: up_capacity[c],
-        up_price: up_price[c],
-        down_capacity: down_capacity[c],
-        down_price: down_price[c],
-    }
-}
-
 // How many sets of r services there are.
 fn sets_of(r: usize) -> usize
     requires { ⌜ r ≤ max-services ⌝ }
@@ -147,8 +110,11 @@ fn rebuild<'a>(
     ensures { λ n. ⌜ Rebuilds (source records size p (now (sums .entry)) (now (costs .entry)) (now (choices .entry))) size p (p % rows) (records .cabinets)
         (now (costs .entry)) (now (costs .exit)) (now (choices .entry)) (now (choices .exit)) (now (keys .entry)) (now (keys .exit)) n ⌝ }
 {
-    let n = records.cabinets;
-    let own = own_at(&records.capacity, &records.price, &records.barred, p);
+    let own = Own {
+        capacity: records.capacity[p],
+        price: records.price[p],
+        barred: records.barred[p],
+    };
     let at = p * size;
     let end = at + size;
     fill_own(&mut costs[at..end], sums, own);
@@ -156,21 +122,22 @@ fn rebuild<'a>(
     let first = q * (2 * size);
     let first_end = first + 2 * size;
     own_keys(&mut keys[first..first_end], weights, p);
+    // No child comes after the last. Where there is no child this is 1, and nothing is joined.
+    let past_last = index(last[p]) + 1;
     let mut count: u64 = 0;
     let mut c = p + 1;
-    while c < n {
+    while c < past_last {
         let d = c;
         c += 1;
         if index(records.parent[d]) != p {
             continue;
         }
-        let k = link_at(
-            &records.up_capacity,
-            &records.up_price,
-            &records.down_capacity,
-            &records.down_price,
-            d,
-        );
+        let k = Link {
+            up_capacity: records.up_capacity[d],
+            up_price: records.up_price[d],
+            down_capacity: records.down_capacity[d],
+            down_price: records.down_price[d],
+        };
         fetch_keys(
             child_keys,
             &keys[..],
