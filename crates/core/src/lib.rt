@@ -14,7 +14,7 @@ use sheet::Sheet;
 mod back; // back.rt: the placing read back from the choice table
 mod sound; // sound.rt: whether records are those of a tree within the limits
 mod sums; // sums.rt: sums over every set of services
-mod tables; // tables.rt: both tables, row by row
+mod tables; // tables.rt: both tables filled and cleared
 
 use back::read_places;
 use sound::is_sound;
@@ -77,7 +77,7 @@ fn fits(records: Records, output: usize, costs: usize, choices: usize) -> bool
     }
 }
 
-// Fills both tables, and decides: a cheapest plan is read back.
+// Fills both tables, and decides: the first of the cheapest plans is read back.
 fn keep_fitting(
     records: Records,
     output: &mut [u16],

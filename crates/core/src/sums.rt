@@ -1,8 +1,7 @@
 // Sums over every set of services: what it demands, what runs out of it and what runs into it.
 ghost use mathlib.Core.Path.{_≡_};
 ghost use mathlib.Core.Bool.{_&&_, not};
-ghost use Prim.Native.Nat.{ℕ, _≤_, _<_};
-ghost use lib.ListN.{length, getD};
+ghost use Prim.Native.Nat.{_≤_, _<_};
 ghost use Rattle.finite.specs.Below.{only};
 ghost use Rattle.sheet.specs.Limits.{max-services, max-streams};
 ghost use Rattle.rows.specs.Charges.{max-sets};

@@ -5,7 +5,7 @@ ghost use Rattle.core.specs.Tables.{Ready, Filled};
 use crate::sums::sums_below;
 use records::Records;
 
-// Fills both tables. Gives the splits counted.
+// Fills both tables, the root's choices with 0, since it is no child. Gives the splits counted.
 pub(crate) fn fill(costs: &mut [u64], choices: &mut [u16], records: Records, size: usize) -> u64
     requires { ⌜ Ready records size (now costs) (now choices) ⌝ }
     ensures { λ n. ⌜ Filled records (now (costs .exit)) (now (choices .exit)) n ⌝ }

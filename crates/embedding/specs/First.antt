@@ -30,7 +30,7 @@ module _ (I : Instance) where
   unfoldable pub first-number : ℕ
   first-number = first-from (I .s ^ I .r) 0 (λ n. is-cheapest (nth-plan (I .s) (I .r) n))
 
-  -- the first of the cheapest plans; where no plan is valid it says nothing
+  -- the first of the cheapest plans; where no plan is valid it has all services on cabinet 0, and means nothing
   unfoldable pub first-plan : ℕ → ℕ
   first-plan i = nth-plan (I .s) (I .r) first-number i
 

@@ -23,7 +23,7 @@ path-within parent (suc n) a b =
       | false ↦ elim (ltb b a) [ true ↦ up a ∷ path-within parent n (parent a) b | false ↦ path-within parent n a (parent b) ++ (down b ∷ []) ]
     ]
 
--- digit i of n to the base s: the cabinet of service i in the plan numbered n, of the s ^ r plans of r services on s cabinets
+-- digit i of n to the base s, digit 0 the last; the digits of the numbers below s ^ r are all plans of r services on s cabinets
 unfoldable pub digit : ℕ → ℕ → ℕ → ℕ
 digit s n zero = n % s
 digit s n (suc i) = digit s (n / s) i

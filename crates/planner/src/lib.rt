@@ -1,4 +1,4 @@
-// The planner: a cheapest plan of a sheet, with the count of the splits weighed for it, and the bound of that count.
+// The planner: the first of the cheapest plans of a sheet, with the count of the splits weighed for it, and the bound of that count.
 ghost use mathlib.Core.Path.{_≡_};
 ghost use Prim.Native.Nat.{_^_, _≤_};
 ghost use lib.ListN.{length, replicate};
@@ -98,7 +98,7 @@ fn plan_records(
     )
 }
 
-// Writes a cheapest plan of the sheet to the output. Each table has one row a cabinet, with an entry for every set of services.
+// Writes the first of the cheapest plans of the sheet to the output. Each table has one row a cabinet, with an entry for every set of services.
 pub fn plan(sheet: &[u8], output: &mut [u16], costs: &mut [u64], choices: &mut [u16]) -> Planned
     ensures answer { λ a. ⌜ a ≡ planned (now (sheet .entry)) (length (now (output .entry))) (length (now (costs .entry))) (length (now (choices .entry))) ⌝ }
     ensures output { λ a. ⌜ OutputAfter (instance (now (sheet .entry))) a (now (output .entry)) (now (output .exit)) ⌝ }

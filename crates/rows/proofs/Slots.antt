@@ -9,10 +9,17 @@ use lib.ListN.{length, getD}
 use Rattle.subsets.specs.declared.Key.{Key}
 use Rattle.sheet.specs.Limits.{max-cabinets}
 use Rattle.rows.specs.Charges.{max-sets}
-use Rattle.rows.specs.Keys.{key-places, kept-places, key-in}
+use Rattle.rows.specs.Keys.{key-in}
 use Rattle.rows.specs.Rebuilds.{key-entry, KeysSet}
 use Rattle.rows.proofs.Parted.{row-of, put-row, row-entry, row-put}
 use Rattle.rows.proofs.Paired.{key-is}
+
+-- the places of a row of keys for all sets, and of all rows that are kept
+abbrev pub key-places : ℕ
+key-places = 2 * max-sets
+
+abbrev pub kept-places : ℕ
+kept-places = 2 * key-places
 
 -- the row of a cabinet lies within the table
 pub slot-in : (size rows c : ℕ) (g : List ℕ) → 0 < rows → rows * (2 * size) ≤ length g → c % rows * (2 * size) + 2 * size ≤ length g

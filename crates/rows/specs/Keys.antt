@@ -8,7 +8,6 @@ use Rattle.subsets.specs.Inner.Keys.{weight, key, high, low}
 use Rattle.subsets.specs.declared.Key.{Key}
 use Rattle.sheet.specs.Limits.{max-services, max-cabinets}
 use Rattle.rows.specs.Cabinets.{parent-of}
-use Rattle.rows.specs.Charges.{max-sets}
 use Rattle.records.specs.declared.Records.{Records}
 
 -- digits are below this
@@ -18,13 +17,6 @@ base = max-cabinets
 -- so many digits are the low part of a key
 abbrev pub low-digits : ℕ
 low-digits = max-services / 2
-
--- the places of a row of keys for all sets, and of all rows that are kept
-abbrev pub key-places : ℕ
-key-places = 2 * max-sets
-
-abbrev pub kept-places : ℕ
-kept-places = 2 * key-places
 
 -- the key of the set x in a list of keys
 abbrev pub key-in : List ℕ → ℕ → Key

@@ -8,12 +8,14 @@ use crate::Own;
 use crate::SETS;
 use subsets::NONE;
 
+// A number of 32 bits, in 64.
 pub(crate) fn wide(x: u32) -> u64
     ensures { λ r. ⌜ (r ≡ x) × (r < 4294967296) ⌝ }
 {
     x as u64
 }
 
+// A number of 16 bits, in 64.
 fn word(x: u16) -> u64
     ensures { λ r. ⌜ (r ≡ x) × (r < 65536) ⌝ }
 {

@@ -1,15 +1,13 @@
 // The children of each cabinet as lists, from the last to the first.
 ghost use mathlib.Core.Path.{_≡_};
-ghost use mathlib.Core.Bool.{true};
 ghost use Prim.Native.Nat.{_≤_};
 ghost use Rattle.sheet.specs.Limits.{max-cabinets};
-ghost use Rattle.rows.specs.Cabinets.{falling};
 ghost use Rattle.rows.specs.Reads.{ListsOf};
 use crate::index;
 use sheet::Sheet;
 
 // Each cabinet's last child, and the sibling before each cabinet; 0 where there is none. `is_tree` says that every parent has a smaller number
-// than its child; where it is not so, the lists hold nothing.
+// than its child; where it is not so, nothing is said of the lists.
 pub(crate) struct Children {
     pub(crate) last: [u16; Sheet::MAX_CABINETS],
     pub(crate) prior: [u16; Sheet::MAX_CABINETS],

@@ -50,8 +50,8 @@ fn split_key(keys: &[u64], child_keys: &[u64], a: usize, rest: usize) -> Key
     }
 }
 
-// Whether the split of x that places a, of these three figures, ties with the best and wins against the one that places d. Keys are looked at where
-// the sums are the same alone: that test comes first, so that one branch settles nearly all splits.
+// Whether the split of x that places a, of these three figures, ties with the best and wins against the one that places d. Keys are looked at only
+// where the sums are the same: that test comes first, so that one branch settles nearly all splits.
 fn wins_tie(
     best: u64,
     placed: u64,

@@ -86,7 +86,8 @@ fn are_rows(services: usize, cabinets: usize, sums: usize, costs: usize, choices
 }
 
 // Rebuilds the row of p: its own charges, then its children joined, in rising order. Gives the splits counted. `child`, `link` and `child_keys`
-// are room on the way; `keys` has the keys of the rows built before, so many rows of them, and gets those of p.
+// are room on the way; `keys` has `rows` rows of keys, those of cabinet d as row d % rows, and gets those of p. A row of a table has `size` entries;
+// `last` and `prior` are the lists of children, and `weights` those of all sets.
 fn rebuild<'a>(
     costs: &mut [u64],
     choices: &mut [u16],
@@ -211,7 +212,8 @@ fn fill_rows<'a>(
     count
 }
 
-// Fills both tables, a row a cabinet. Gives the splits counted.
+// Fills both tables, a row a cabinet, but the root's choices, which stay: it is no child. Gives the splits counted. Where there is no tree or no room
+// nothing is done.
 pub fn fill(costs: &mut [u64], choices: &mut [u16], records: Records, sums: &[u32]) -> u64
     ensures { λ n. ⌜ FillsRows records (now (sums .entry)) (now (costs .entry)) (now (costs .exit)) (now (choices .entry)) (now (choices .exit)) n ⌝ }
 {
@@ -235,7 +237,7 @@ pub fn fill(costs: &mut [u64], choices: &mut [u16], records: Records, sums: &[u3
     )
 }
 
-// The key of the placing of all services on the whole tree, as the choices name it. Gives 0 where there is no tree or no room.
+// The key of the placing of all services on the whole tree, as the choices name it. Gives 0 where there is no cabinet, no tree or no room.
 pub fn root_key(records: Records, choices: &[u16]) -> Key
     ensures { λ key. ⌜ RootKey records (now (choices .entry)) key ⌝ }
 {

@@ -105,7 +105,7 @@ first-number b (suc r) π ρ hp hr h =
     go (no l) m =
         let e : number b r π ≡ number b r ρ = omega arith in
         let f : number b r π * b ≡ number b r ρ * b = ap (λ (y : ℕ). y * b) e in
-        omega (arith, h r (omega arith) (number-same b r π ρ (λ i k. hp i (omega arith)) (λ i k. hr i (omega arith)) e))
+        omega (arith, h r (omega arith) (λ j k. number-same b r π ρ (λ i k. hp i (omega arith)) (λ i k. hr i (omega arith)) e j (omega arith)))
 
 -- ---- the key of all services is their number
 

@@ -1,4 +1,4 @@
--- What the planner's mathematics is about, in the order to read it: least charges on a tree for any charges whatever, their rows, counts and read-back.
+-- What the planner's mathematics is about, in the order to read it: least charges on a tree for any charges whatever, their rows, counts and read-back, and keys, by which ties are settled.
 pub mod Masks
 pub mod Loop
 pub mod Totals

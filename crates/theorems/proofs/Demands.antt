@@ -164,15 +164,20 @@ plan-written bytes output output' costs choices k n e o =
 
 -- ---- The first of the cheapest
 
--- The plan written is the first of the cheapest: for every rival mapping that is feasible, keeps the limits and costs what is answered, what stands in
--- the first r places of the output is not after it, in the order of the cabinet of service 0, then of service 1, and so on. Which plan that is is told by
--- `first-plan`, of the sheet alone. (`planner::plan`, clauses `answer` and `output`.)
+-- The plan written is the first of the cheapest: with some paths, what stands in the first r places of the output is a mapping that is feasible, keeps
+-- the limits and costs what is answered; and it is not after any rival mapping that is feasible, keeps the limits and costs the same, in the order of the
+-- cabinet of service 0, then of service 1, and so on. Which plan that is is told by `first-plan`, of the sheet alone. (`planner::plan`, clauses `answer`
+-- and `output`.)
 pub first-of-the-cheapest :
     (bytes output output' : List ℕ) (costs choices k n : ℕ) →
     planned bytes (length output) costs choices ≡ Plan k n →
     OutputAfter (instance bytes) (Plan k n) output output' →
     (take (instance bytes .r) output' ≡ places (instance bytes .r) (first-plan (instance bytes)))
+    × Maps (instance bytes) (place (take (instance bytes .r) output')) k
     × ((π : ℕ → ℕ) (ρ : ℕ → List ℕ) → Feasible (road (instance bytes)) π ρ → Limits (instance bytes) π ρ → cost (road (instance bytes)) π ρ ≡ k →
     NotAfter (instance bytes .r) (place (take (instance bytes .r) output')) π)
-first-of-the-cheapest bytes output output' costs choices k n e o =
-    (planning.first-places (instance bytes) k n output output' o, planning.none-before bytes output output' costs choices k n e o)
+first-of-the-cheapest bytes output output' costs choices k n e o = (
+  planning.first-places (instance bytes) k n output output' o,
+  plan-written bytes output output' costs choices k n e o .0,
+  planning.none-before bytes output output' costs choices k n e o,
+)

@@ -14,6 +14,7 @@ use Rattle.embedding.specs.First.{first-plan, places}
 use Rattle.checker.specs.Check.{checked}
 use Rattle.checker.specs.declared.Checked.{Checked}
 use Rattle.checker.specs.declared.Checked.the-variants.{Accepted, Refused}
+use Rattle.planner.specs.Answers as planner
 use Rattle.planner.specs.Answers.{entries, cost, planned}
 use Rattle.planner.specs.declared.Planned.{Planned}
 use Rattle.planner.specs.declared.Planned.the-variants as plans
@@ -35,7 +36,7 @@ pub data Case : Type 0 where
   plan-costs : List ℕ → ℕ → Case
   -- every valid plan of this cost puts this service on this cabinet
   puts : List ℕ → ℕ → ℕ → ℕ → Case
-  -- the plan that the planner writes
+  -- the planner, with memory that just suffices: there is a plan, and this is what it writes
   writes : List ℕ → List ℕ → Case
 
 -- the planner's answer where the output has r places and each table s × 2^r entries
@@ -50,11 +51,11 @@ all-put I k i c =
 -- the definitions give the answer expected
 abbrev pub Holds : Case → Type 0
 Holds (read bytes n) = number (reading bytes) ≡ n
-Holds (check bytes places answer) = checked bytes places ≡ answer
+Holds (check bytes written answer) = checked bytes written ≡ answer
 Holds (plan bytes answer) = answer-to bytes ≡ answer
 Holds (plan-costs bytes k) = cost (answer-to bytes) ≡ k
 Holds (puts bytes k i c) = all-put (instance bytes) k i c ≡ true
-Holds (writes bytes written) = places (instance bytes .r) (first-plan (instance bytes)) ≡ written
+Holds (writes bytes written) = (planner.number (answer-to bytes) ≡ 0) × (places (instance bytes .r) (first-plan (instance bytes)) ≡ written)
 
 -- every case of a table holds
 abbrev pub AllHold : List Case → Type 0

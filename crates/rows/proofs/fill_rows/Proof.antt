@@ -7,8 +7,7 @@ use lib.ListN.{length}
 use native.Mathlib.Nat.{pow-le-pow-right, one-le-pow}
 use Rattle.sheet.specs.Limits.{max-services}
 use Rattle.rows.specs.Charges.{max-sets}
-use Rattle.rows.specs.Keys.{key-places, kept-places}
-use Rattle.rows.proofs.Slots.{rows-kept}
+use Rattle.rows.proofs.Slots.{key-places, kept-places, rows-kept}
 use Rattle.rows.proofs.Filling.{From, from-start, from-kept, from-next, from-small, from-all}
 use Rattle.rows.proofs.fill_rows.Statement.{statement}
 use Rattle.rows.proofs.fill_rows.Tie as tie

@@ -5,7 +5,7 @@ use mathlib.Core.Path.{_≡_, refl, ap}
 use borrow.Author.Needs.{needs}
 use lib.ListN.{length, length-set}
 use Rattle.subsets.specs.declared.Key.{Key}
-use Rattle.rows.specs.Keys.{key-places}
+use Rattle.rows.proofs.Slots.{key-places}
 use Rattle.rows.specs.Reads.{Weighted}
 use Rattle.rows.proofs.Weighing.{set-weight-le, weighed-next, weighed-all}
 use Rattle.rows.proofs.keys.weights_of.Statement.{statement}
