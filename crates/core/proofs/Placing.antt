@@ -17,7 +17,7 @@ use Rattle.subsets.proofs.Digits.{key-digit}
 use Rattle.rows.specs.Charges.{all-sums}
 use Rattle.rows.specs.Keys.{base, low-digits, tree}
 use Rattle.rows.specs.Rebuilds as rebuilds
-use Rattle.rows.specs.Rebuilds.{entry, readable, RootKey}
+use Rattle.rows.specs.Rebuilds.{entry, has-root-key, RootKey}
 use Rattle.records.specs.declared.Records.{Records}
 use Rattle.core.specs.Tables.{netted, Readable}
 use Rattle.core.proofs.Sounding.{Good, good, falls}
@@ -28,7 +28,7 @@ module _ (k : Records) (o u : List ℕ) (P : Readable k o u) where
   sounds = good k (P .is-sound)
 
   -- the tests at the head of the reading pass
-  root-tests : readable k (length u) ≡ true
+  root-tests : has-root-key k (length u) ≡ true
   root-tests =
       both (leb 1 (k .cabinets)) _ (le-leb 1 (k .cabinets) (sounds .some-cabinet)) (all-tests k (P .is-sound) sounds all-sums (length u) (length u) refl (P .choices) (P .choices))
 

@@ -16,8 +16,8 @@ use Rattle.subsets.specs.Inner.Totals.{Le}
 use Rattle.subsets.specs.Inner.Rows.{row-at, choice-at}
 use Rattle.subsets.specs.Inner.Back.{seat, Wins}
 use Rattle.subsets.specs.Inner.Keys.{ordered}
-use Rattle.subsets.specs.Inner.Keys as keys
 use Rattle.subsets.proofs.Order.{number, number-ext, number-lt, number-same, number-first}
+use Rattle.subsets.proofs.First as placings
 use Rattle.subsets.proofs.First.{not-after-both, seat-first}
 use Rattle.subsets.proofs.Sets.{has-full, full-lt}
 use Rattle.subsets.proofs.Rows.{row-root}
@@ -231,7 +231,7 @@ module _ (I : Instance) (W : WellFormed I) where
   seat-plan b hb choice wins k e =
       let row : row-at (net I) 0 (I .s) (full (I .r)) ≡ some k =
       cheapest-least I W _ (row-root (net I) (W .parents) (full (I .r)) some-cabinet (full-lt (I .r))) ∙ e in
-      let F : keys.First (net I) everywhere 0 (some k) (seat (net I) choice 0 (I .s) (full (I .r))) = seat-first b (net I) some-cabinet hb (W .parents) choice wins k row in
+      let F : placings.First (net I) everywhere 0 (some k) (seat (net I) choice 0 (I .s) (full (I .r))) = seat-first b (net I) some-cabinet hb (W .parents) choice wins k row in
       let p : InRange I (seat (net I) choice 0 (I .s) (full (I .r))) = λ i j. F .meets .sits i j (has-full (I .r) i j) .1 in
       let v = worth-iff _ k .0 (sym (charges I W _ p) ∙ F .meets .cost) in
       record {

@@ -30,7 +30,7 @@ use Rattle.rows.specs.Cabinets.{parent-of}
 use Rattle.rows.specs.Keys as weights
 use Rattle.rows.specs.Keys.{base, low-digits, tree}
 use Rattle.rows.specs.Rebuilds as rebuilds
-use Rattle.rows.specs.Rebuilds.{entry, back-key, key-entry, source, Rebuilds, Kept, Built, Fills}
+use Rattle.rows.specs.Rebuilds.{entry, back-key, key-entry, source, Rebuilds, KeysKept, Built, Fills}
 use Rattle.records.specs.declared.Records.{Records}
 use Rattle.rows.proofs.Paired.{key-is}
 use Rattle.rows.proofs.Slots.{slot-apart}
@@ -156,7 +156,7 @@ module _ (k : Records) (size : ℕ) (sums : List ℕ) (falls : Falls (parent-of 
   }
 
   -- what a row's rebuilding asks of the keys kept
-  pub from-kept : (rows p : ℕ) (t t₁ u u₁ g : List ℕ) (m : ℕ) → 0 < rows → rows * (2 * size) ≤ length g → From k size sums rows (suc p) t t₁ u u₁ g m → Kept k size p rows u₁ g
+  pub from-kept : (rows p : ℕ) (t t₁ u u₁ g : List ℕ) (m : ℕ) → 0 < rows → rows * (2 * size) ≤ length g → From k size sums rows (suc p) t t₁ u u₁ g m → KeysKept k size p rows u₁ g
   from-kept rows p t t₁ u u₁ g m z places F =
       record { some-rows = z; places = places; keys = λ d x h l near i. F .keys d x (omega arith) l (omega arith) i }
 

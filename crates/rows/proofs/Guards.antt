@@ -22,7 +22,7 @@ use Rattle.rows.specs.Charges.{all-sums}
 use Rattle.rows.specs.Keys.{base, low-digits, tree}
 use Rattle.rows.specs.Reads.{ListsOf, Weighted, Readable, Started}
 use Rattle.rows.specs.Rebuilds as rebuilds
-use Rattle.rows.specs.Rebuilds.{entry, has-rows, FillRoom, Fills, FillsRows, fillable, readable, RootKey}
+use Rattle.rows.specs.Rebuilds.{entry, has-rows, FillRoom, Fills, FillsRows, fillable, has-root-key, RootKey}
 use Rattle.rows.proofs.Rebuilding.{field-at}
 
 -- what holds of 0 and of the first n fields holds of every field
@@ -90,11 +90,11 @@ module _ (k : Records) (sums t u : List ℕ) where
 
 module _ (k : Records) (u : List ℕ) where
   -- a test failed, so that no key is read
-  pub no-key : (readable k (length u) ≡ true → ⊥) → RootKey k u (record { high = 0; low = 0 })
+  pub no-key : (has-root-key k (length u) ≡ true → ⊥) → RootKey k u (record { high = 0; low = 0 })
   no-key n = record { done = λ e. absurd (n e); left = λ e. refl }
 
   -- none failed
-  pub root-keyed : {size : ℕ} {a : Key} → size ≡ 2 ^ k .services → readable k (length u) ≡ true
+  pub root-keyed : {size : ℕ} {a : Key} → size ≡ 2 ^ k .services → has-root-key k (length u) ≡ true
       → a ≡ key-parts base low-digits (tree k) (entry size u) 0 (k .cabinets) (size - 1) → RootKey k u a
   unfolding rebuilds.back-key
   root-keyed {size} {a} e w h = record {

@@ -29,7 +29,7 @@ use Rattle.rows.specs.Keys.{base, low-digits, key-in, set-weight, times-
 use Rattle.rows.specs.Reads.{Weighted, Readable}
 use Rattle.rows.specs.Joins.{Small}
 use Rattle.rows.specs.Rebuilds as rebuilds
-use Rattle.rows.specs.Rebuilds.{entry, back-key, key-entry, RowSet, KeysSet, link-figures, source, Rebuilds, JoinsChild, JoinRoom, RebuildRoom, Kept}
+use Rattle.rows.specs.Rebuilds.{entry, back-key, key-entry, RowSet, KeysSet, link-figures, source, Rebuilds, JoinsChild, JoinRoom, RebuildRoom, KeysKept}
 use Rattle.rows.specs.Cabinets.{field, parent-of, own-of, link-of}
 use Rattle.records.specs.declared.Records.{Records}
 use Rattle.rows.proofs.Joining.{counted-le}
@@ -267,7 +267,7 @@ module _ (sums : List ℕ) {k : Records} {size p : ℕ} {t u : List ℕ} (R : Re
 
 -- ---- the keys of a child that is to be joined, and of the row so far
 
-module _ (sums : List ℕ) {k : Records} {size p rows : ℕ} {t u g : List ℕ} (R : RebuildRoom k size p t u) (K : Kept k size p rows u g)
+module _ (sums : List ℕ) {k : Records} {size p rows : ℕ} {t u g : List ℕ} (R : RebuildRoom k size p t u) (K : KeysKept k size p rows u g)
     {last prior weights : List ℕ} (D : Readable (tree k) size u last prior weights)
     {t₁ u₁ g₁ : List ℕ} {n c : ℕ} (C : Children (source k size p sums t u) size p (p % rows) c (k .cabinets) t t₁ u u₁ g g₁ n) (l : c < k .cabinets) where
   -- reading back still relies on the same
@@ -316,7 +316,7 @@ module _ (sums : List ℕ) {k : Records} {size p rows : ℕ} {t u g : List ℕ} 
 
 -- ---- the keys of p alone: they are written in a row of their own, so that all that are kept stay
 
-pub kept-alone : {k : Records} {size p rows : ℕ} {u g g₀ : List ℕ} {f : ℕ → Key} → Kept k size p rows u g → KeysSet size (p % rows) f g g₀ → length g₀ ≡ length g → Kept k size p rows u g₀
+pub kept-alone : {k : Records} {size p rows : ℕ} {u g g₀ : List ℕ} {f : ℕ → Key} → KeysKept k size p rows u g → KeysSet size (p % rows) f g g₀ → length g₀ ≡ length g → KeysKept k size p rows u g₀
 kept-alone {k} {size} {p} {rows} K S e = record {
   some-rows = K .some-rows;
   places = omega (arith, K .places);

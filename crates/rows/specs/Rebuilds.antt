@@ -104,7 +104,7 @@ pub record Scratch (size : ℕ) (child link kid sums : List ℕ) : Type 0 where
   pub for-sums : all-sums ≤ length sums
 
 -- rows of keys are kept for the last so many cabinets: those after p are there, cabinet d as row d % rows
-pub record Kept (k : Records) (size p rows : ℕ) (u g : List ℕ) : Type 0 where
+pub record KeysKept (k : Records) (size p rows : ℕ) (u g : List ℕ) : Type 0 where
   pub some-rows : 0 < rows
   pub places : rows * (2 * size) ≤ length g
   pub keys : (d x : ℕ) → p < d → d < k .cabinets → d - p < rows → x < size → key-entry size g (d % rows) x ≡ back-key k size u d x
@@ -147,10 +147,10 @@ pub record FillsRows (k : Records) (sums t t' u u' : List ℕ) (m : ℕ) : Type 
   pub left : fillable k (length sums) (length t) (length u) ≡ false → (t' ≡ t) × (u' ≡ u) × (m ≡ 0)
 
 -- a choice table of so many entries can be read back from the root: there is a root and room, and every parent has a smaller number than its child
-abbrev pub readable : Records → ℕ → Bool
-readable k choices = leb 1 (k .cabinets) && fillable k all-sums choices choices
+abbrev pub has-root-key : Records → ℕ → Bool
+has-root-key k choices = leb 1 (k .cabinets) && fillable k all-sums choices choices
 
 -- the key of the placing of all services on the whole tree, where the table can be read back
 pub record RootKey (k : Records) (u : List ℕ) (key : Key) : Type 0 where
-  pub done : readable k (length u) ≡ true → key ≡ back-key k (2 ^ k .services) u 0 (full (k .services))
-  pub left : readable k (length u) ≡ false → key ≡ record { high = 0; low = 0 }
+  pub done : has-root-key k (length u) ≡ true → key ≡ back-key k (2 ^ k .services) u 0 (full (k .services))
+  pub left : has-root-key k (length u) ≡ false → key ≡ record { high = 0; low = 0 }

@@ -4,7 +4,7 @@ ghost use Prim.Native.Nat.{_%_, _^_, _≤_, _<_};
 ghost use Rattle.sheet.specs.Limits.{max-services};
 ghost use Rattle.rows.specs.Keys.{tree};
 ghost use Rattle.rows.specs.Reads.{Readable};
-ghost use Rattle.rows.specs.Rebuilds.{source, has-rows, RebuildRoom, Scratch, Kept, Rebuilds, FillRoom, Fills, FillsRows, RootKey};
+ghost use Rattle.rows.specs.Rebuilds.{source, has-rows, RebuildRoom, Scratch, KeysKept, Rebuilds, FillRoom, Fills, FillsRows, RootKey};
 use records::Records;
 use sheet::Sheet;
 use subsets::Key;
@@ -107,7 +107,7 @@ fn rebuild<'a>(
     requires room { ⌜ RebuildRoom records size p (now costs) (now choices) ⌝ }
     requires scratch { ⌜ Scratch size (now child) (now link) (now «child_keys») (now sums) ⌝ }
     requires readable { ⌜ Readable (tree records) size (now choices) (now last) (now prior) (now weights) ⌝ }
-    requires kept { ⌜ Kept records size p rows (now choices) (now keys) ⌝ }
+    requires kept { ⌜ KeysKept records size p rows (now choices) (now keys) ⌝ }
     ensures { λ n. ⌜ Rebuilds (source records size p (now (sums .entry)) (now (costs .entry)) (now (choices .entry))) size p (p % rows) (records .cabinets)
         (now (costs .entry)) (now (costs .exit)) (now (choices .entry)) (now (choices .exit)) (now (keys .entry)) (now (keys .exit)) n ⌝ }
 {

@@ -11,13 +11,18 @@ use Rattle.subsets.specs.Inner.Net.{Falls, Net, charge, Sits, Least}
 use Rattle.subsets.specs.Inner.Rows.{row-at, choice-at}
 use Rattle.subsets.specs.Inner.Back.{seat, Wins, Meets}
 use Rattle.subsets.specs.Order.{NotAfter}
-use Rattle.subsets.specs.Inner.Keys.{weight, key, high, low, ordered, First, cost-part, key-part}
+use Rattle.subsets.specs.Inner.Keys.{weight, key, high, low, ordered}
 use Rattle.subsets.proofs.Sets.{has-full, full-lt}
 use Rattle.subsets.proofs.Rows.{row-root}
 use Rattle.subsets.proofs.Back.{seat-root, choice-wins}
 use Rattle.subsets.proofs.Order.{number, number-same, number-first, first-number, key-lt, key-full}
 use Rattle.subsets.proofs.KeyParts.{low-lt, high-lt}
-use Rattle.subsets.proofs.Keys.{Above, charge-some, row-cost, meets-parts, seat-keyed}
+use Rattle.subsets.proofs.Keys.{cost-part, key-part, Above, charge-some, row-cost, meets-parts, seat-keyed}
+
+-- π is the first of the placings of all services on T at the charge f: it has that charge, and it is not after any other that has it
+pub record First (N : Net) (T : ℕ → Bool) (v : ℕ) (f : Cost) (π : ℕ → ℕ) : Type 0 where
+  pub meets : Meets N T v (full (N .r)) f π
+  pub first : (ρ : ℕ → ℕ) → Meets N T v (full (N .r)) f ρ → NotAfter (N .r) π ρ
 
 -- two placings that are not after one another are the same
 pub not-after-both : (b r : ℕ) (π ρ : ℕ → ℕ) → ((i : ℕ) → i < r → π i < b) → ((i : ℕ) → i < r → ρ i < b) → NotAfter r π ρ → NotAfter r ρ π

@@ -14,7 +14,7 @@ use Rattle.subsets.specs.Inner.Splits.{split-charge}
 use Rattle.subsets.specs.Inner.Rows.{child, row-at, choice-at}
 use Rattle.subsets.specs.Inner.Back.{seat}
 use Rattle.subsets.specs.Inner.Folds.{plus, split-key, by-key, best-split, Holds}
-use Rattle.subsets.specs.Inner.Keys.{weight, key, high, low, times, keyed, ordered, cost-part, key-at, key-parts}
+use Rattle.subsets.specs.Inner.Keys.{weight, key, high, low, times, keyed, ordered, key-at, key-parts}
 use Rattle.subsets.specs.declared.Key.{Key}
 use Rattle.subsets.proofs.Costs.{⊕-assoc, ⊕-comm, ⊕-left-comm}
 use Rattle.subsets.proofs.Sets.{Sub, sub-le}
@@ -23,7 +23,7 @@ use Rattle.subsets.proofs.Rows.{child-parent}
 use Rattle.subsets.proofs.Join.{mix}
 use Rattle.subsets.proofs.Back.{choice-wins, seat-below}
 use Rattle.subsets.proofs.Tables.{split-read, split-fits}
-use Rattle.subsets.proofs.Keys.{Above, times-add, row-cost, row-parts, row-key, seat-keyed}
+use Rattle.subsets.proofs.Keys.{cost-part, Above, times-add, row-cost, row-parts, row-key, seat-keyed}
 use Rattle.subsets.proofs.KeyRows.{key-mix, key-join}
 use Rattle.subsets.proofs.KeyParts.{key-two}
 use Rattle.subsets.proofs.First.{ordered-above, low-above}

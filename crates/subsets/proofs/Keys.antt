@@ -17,11 +17,21 @@ use Rattle.subsets.specs.Inner.Net.{Falls, Net, on, below, charge, Sits,
 use Rattle.subsets.specs.Tree.{part}
 use Rattle.subsets.specs.Inner.Rows.{row-at}
 use Rattle.subsets.specs.Inner.Back.{seat, Wins, Meets}
-use Rattle.subsets.specs.Inner.Keys.{key, times, keyed, cost-part, key-part}
+use Rattle.subsets.specs.Inner.Keys.{key, times, keyed}
 use Rattle.subsets.proofs.Costs.{⊕-assoc, ⊕-comm, ⊕-parts, total-ext, total-add}
 use Rattle.subsets.proofs.Sets.{has-keep}
 use Rattle.subsets.proofs.Rows.{row-least}
 use Rattle.subsets.proofs.Back.{seat-bare, seat-meets}
+
+-- the cost in a charge that carries a key below k
+unfoldable pub cost-part : ℕ → Cost → Cost
+cost-part k none = none
+cost-part k (some m) = some (m / k)
+
+-- and the key in it
+unfoldable pub key-part : ℕ → Cost → ℕ
+key-part k none = 0
+key-part k (some m) = m % k
 
 -- ---- charges k times over
 

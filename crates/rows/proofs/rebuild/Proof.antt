@@ -10,7 +10,7 @@ use Rattle.rows.specs.declared.Own.{Own}
 use Rattle.rows.specs.declared.Link.{Link}
 use Rattle.rows.specs.Charges.{max-sets, own-figure, demanded}
 use Rattle.rows.specs.Keys.{key-in, set-weight, times-key, tree}
-use Rattle.rows.specs.Rebuilds.{back-key, source, KeysSet, Kept, Rebuilds, JoinsChild}
+use Rattle.rows.specs.Rebuilds.{back-key, source, KeysSet, KeysKept, Rebuilds, JoinsChild}
 use Rattle.rows.proofs.Parted.{put-row, put-length, row-length}
 use Rattle.rows.proofs.Slots.{slot-in, slot-small, slot-put}
 use Rattle.rows.proofs.Reading.{last-in, after-last}
@@ -136,7 +136,7 @@ same-keys : (c : tie.After-slice-known8 Inv-loop μ-loop) → length (put-row (2
 same-keys c = put-length (2 * c .before .before .before .before .before .before .before .before .before .before .before .before .before .before .before .before .before .before .before .args .size) (c .before .before .before .before .before .before .before .before .before .before .before .before .before .before .before .before .before .before .before .args .p % c .before .before .before .before .before .before .before .before .before .before .before .before .before .before .before .before .before .before .before .args .rows) (c .before .before .before .before .before .before .before .before .before .before .before .before .before .before .before .before .before .before .before .args .keys .now) (slot-fits (c .before .before .before .before .before .before .before .before .before .before .before .before .before .before .before .before .before .before .before) .0) (c .before .before .own-keys .last .0) (c .before .before .own-keys .kept .0)
 
 -- the keys kept are still there
-kept : (c : tie.After-slice-known8 Inv-loop μ-loop) → Kept (c .before .before .before .before .before .before .before .before .before .before .before .before .before .before .before .before .before .before .before .args .t7) (c .before .before .before .before .before .before .before .before .before .before .before .before .before .before .before .before .before .before .before .args .size) (c .before .before .before .before .before .before .before .before .before .before .before .before .before .before .before .before .before .before .before .args .p) (c .before .before .before .before .before .before .before .before .before .before .before .before .before .before .before .before .before .before .before .args .rows) (c .before .before .before .before .before .before .before .before .before .before .before .before .before .before .before .before .before .before .before .args .choices .now) (put-row (2 * c .before .before .before .before .before .before .before .before .before .before .before .before .before .before .before .before .before .before .before .args .size) (c .before .before .before .before .before .before .before .before .before .before .before .before .before .before .before .before .before .before .before .args .p % c .before .before .before .before .before .before .before .before .before .before .before .before .before .before .before .before .before .before .before .args .rows) (c .before .before .before .before .before .before .before .before .before .before .before .before .before .before .before .before .before .before .before .args .keys .now) (c .before .before .own-keys .last .0))
+kept : (c : tie.After-slice-known8 Inv-loop μ-loop) → KeysKept (c .before .before .before .before .before .before .before .before .before .before .before .before .before .before .before .before .before .before .before .args .t7) (c .before .before .before .before .before .before .before .before .before .before .before .before .before .before .before .before .before .before .before .args .size) (c .before .before .before .before .before .before .before .before .before .before .before .before .before .before .before .before .before .before .before .args .p) (c .before .before .before .before .before .before .before .before .before .before .before .before .before .before .before .before .before .before .before .args .rows) (c .before .before .before .before .before .before .before .before .before .before .before .before .before .before .before .before .before .before .before .args .choices .now) (put-row (2 * c .before .before .before .before .before .before .before .before .before .before .before .before .before .before .before .before .before .before .before .args .size) (c .before .before .before .before .before .before .before .before .before .before .before .before .before .before .before .before .before .before .before .args .p % c .before .before .before .before .before .before .before .before .before .before .before .before .before .before .before .before .before .before .before .args .rows) (c .before .before .before .before .before .before .before .before .before .before .before .before .before .before .before .before .before .before .before .args .keys .now) (c .before .before .own-keys .last .0))
 kept c = kept-alone (c .before .before .before .before .before .before .before .before .before .before .before .before .before .before .before .before .before .before .before .pre .1 .1 .1) (keyed c) (same-keys c)
 
 mul-index-2 : tie.Need-mul-index-2 Inv-loop μ-loop

@@ -5,14 +5,12 @@ use mathlib.Core.Bool.{Bool, cond}
 use lib.Dec.{ltb}
 use Rattle.finite.specs.Below.{only, sum-below}
 use Rattle.subsets.specs.Sets.{has}
-use Rattle.subsets.specs.Order.{NotAfter}
-use Rattle.subsets.specs.Inner.Masks.{full}
 use Rattle.subsets.specs.Costs.{Cost, none, some}
 use Rattle.subsets.specs.Inner.Totals.{_⊕_}
 use Rattle.subsets.specs.Inner.Net.{Net}
 use Rattle.subsets.specs.Inner.Splits.{largest-below}
 use Rattle.subsets.specs.Inner.Rows.{child}
-use Rattle.subsets.specs.Inner.Back.{seat, Meets}
+use Rattle.subsets.specs.Inner.Back.{seat}
 use Rattle.subsets.specs.declared.Key.{Key}
 
 -- the weight of service i in a number of r digits to the base b, where service 0 has the first digit
@@ -48,21 +46,6 @@ keyed k w N = record {
 -- the net keyed by numbers to the base b, which is to be no less than the number of nodes
 abbrev pub ordered : ℕ → Net → Net
 ordered b N = keyed (b ^ N .r) (weight b (N .r)) N
-
--- π is the first of the placings of all services on T at the charge f: it has that charge, and it is not after any other that has it
-pub record First (N : Net) (T : ℕ → Bool) (v : ℕ) (f : Cost) (π : ℕ → ℕ) : Type 0 where
-  pub meets : Meets N T v (full (N .r)) f π
-  pub first : (ρ : ℕ → ℕ) → Meets N T v (full (N .r)) f ρ → NotAfter (N .r) π ρ
-
--- the cost in a charge that carries a key below k
-unfoldable pub cost-part : ℕ → Cost → Cost
-cost-part k none = none
-cost-part k (some m) = some (m / k)
-
--- and the key in it
-unfoldable pub key-part : ℕ → Cost → ℕ
-key-part k none = 0
-key-part k (some m) = m % k
 
 -- the key of the placing read back for x on p, its children below k and all under those, whatever the table holds
 abbrev pub key-at : Net → (ℕ → ℕ) → (ℕ → ℕ → ℕ) → ℕ → ℕ → ℕ → ℕ
