@@ -87,7 +87,7 @@ fn are_rows(services: usize, cabinets: usize, sums: usize, costs: usize, choices
 
 // Rebuilds the row of p: its own charges, then its children joined, in rising order. Gives the splits counted. `child`, `link` and `child_keys`
 // are room on the way; `keys` has `rows` rows of keys, those of cabinet d as row d % rows, and gets those of p. A row of a table has `size` entries;
-// `last` and `prior` are the lists of children, and `weights` those of all sets.
+// `last` and `prior` are the lists of children; `weights` has the weight of each set.
 fn rebuild<'a>(
     costs: &mut [u64],
     choices: &mut [u16],

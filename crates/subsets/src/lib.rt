@@ -65,7 +65,8 @@ pub fn weigh(best: u64, placed: u64, rest: u64, link: u64) -> Weighed
     }
 }
 
-// Whether the three figures, costs or not, sum to the best. Where they do not there is no tie, and it seldom happens by chance.
+// Whether the three figures, costs or not, sum to the best. Where they do not there is no tie. Where they do, and none of them is above NONE, there is one,
+// or no split was found yet.
 pub fn may_tie(best: u64, placed: u64, rest: u64, link: u64) -> bool
     ensures { λ b. ⌜ b ≡ may-tie best placed rest link ⌝ }
 {
