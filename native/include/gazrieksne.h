@@ -2,9 +2,9 @@
  *
  * A planning sheet describes services with demands, cabinets that form a tree and have room for
  * services, streams between services, and which services are barred from which cabinets. The
- * library reads sheets, checks plans, and finds the first of the cheapest plans. It keeps no state,
- * allocates nothing, and calls nothing of yours; any number of threads may call it at once, each
- * with memory of its own.
+ * library reads sheets, checks plans, finds the first of the cheapest plans, and writes tidy copies
+ * of sheets. It keeps no state, allocates nothing, and calls nothing of yours; any number of threads
+ * may call it at once, each with memory of its own.
  *
  * The sheet
  * ---------
@@ -41,7 +41,8 @@
  * place of them is written on every call, whatever they held, with 0 where there is nothing to
  * tell. Their first place holds the group of the refusal, that is, who can have caused it. If
  * several refusals apply, the one that is first in this order is given: 1 to 9, 18 and 19 for every
- * call that takes a sheet, then 10, 11 and 12 for gz_plan, and 13, 14, 20, 15 and 16 for gz_check.
+ * call that takes a sheet, then 10, 11 and 12 for gz_plan, 13, 14, 20, 15 and 16 for gz_check, and
+ * 21 for gz_tidy.
  *
  *   group 0: no refusal
  *   group 1: whoever wrote the sheet
@@ -59,9 +60,10 @@
  *         its first word does not fit), or it has more than 2,000 pairs, or it shares a byte with
  *         another block (a block of no bytes shares none)
  *     19  the service of a barred pair is not below r, or its cabinet not below s
- *   group 2: whoever lends memory to the planner
- *     10  the output is shorter than r places
+ *   group 2: whoever lends memory
+ *     10  the planner's output is shorter than r places
  *     11  a table is shorter than s * 2^r entries
+ *     21  the output is shorter than the sheet that is to be written there
  *   group 3: the road
  *     12  no valid plan exists
  *   group 4: whoever wrote the plan
@@ -138,6 +140,21 @@ uint64_t gz_check(const uint8_t *sheet, size_t sheet_len, const uint16_t *plan, 
 uint64_t gz_plan(const uint8_t *sheet, size_t sheet_len, uint16_t *output, size_t output_len,
                  uint64_t *costs, size_t costs_len, uint16_t *choices, size_t choices_len,
                  uint64_t answer[3]);
+
+/* Writes the tidy copy of a sheet: header, services, cabinets, streams and barred pairs, in this
+ * order and without gaps, each block's records in their order; but the pairs stand in rising order
+ * of service, then of cabinet, each once. Without a pair there is no fourth block, and the eighth
+ * word is 0; any other block without records has for its offset the place where it would stand. Two
+ * accepted sheets have equal copies exactly when their records agree and they bar the same pairs.
+ * The copy is accepted, gz_plan and gz_check answer for it as they do for the sheet, and its own
+ * copy is no other. Returns 0, else 1 to 9, 18, 19 or 21.
+ *   output, output_len  bytes for the copy. On success the copy stands at their front. Bytes behind
+ *                       it stay as they are, and in a refusal all do.
+ *   answer              group, length of the copy in bytes; the length is 0 in a refusal
+ * An output of GZ_LONGEST_COPY bytes suffices for any sheet. */
+#define GZ_LONGEST_COPY 11438
+uint64_t gz_tidy(const uint8_t *sheet, size_t sheet_len, uint8_t *output, size_t output_len,
+                 uint64_t answer[2]);
 
 /* Weighs one split of a set X of services into A, on the part of the road before a cabinet, and
  * the rest, on that cabinet and all under it. A figure up to 10^15 is a cost; a larger one means
