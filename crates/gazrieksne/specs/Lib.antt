@@ -1,3 +1,4 @@
 -- What each entry point returns and writes.
 pub mod Reads
 pub mod Plans
+pub mod Copies

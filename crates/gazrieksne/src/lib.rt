@@ -1,5 +1,6 @@
 // The C entry points: thin functions over the library's calls. native/include/gazrieksne.h documents them.
 mod checks; // checks.rt: gz_check
+mod copies; // copies.rt: gz_tidy
 mod plans; // plans.rt: gz_plan, gz_bound
 mod reads; // reads.rt: gz_read, gz_service, gz_cabinet, gz_stream, gz_barred
 mod weighs; // weighs.rt: gz_weigh

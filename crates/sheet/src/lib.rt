@@ -205,18 +205,18 @@ impl Sheet {
     pub const MAX_AMOUNT: u64 = 10000;
 
     // Bytes of the header, and of one record of each kind.
-    const HEADER: usize = 16;
+    pub const HEADER: usize = 16;
 
-    const SERVICE: usize = 2;
+    pub const SERVICE: usize = 2;
 
-    const CABINET: usize = 14;
+    pub const CABINET: usize = 14;
 
-    const STREAM: usize = 6;
+    pub const STREAM: usize = 6;
 
-    const PAIR: usize = 4;
+    pub const PAIR: usize = 4;
 
     // Bytes of the count before the pairs.
-    const COUNT: usize = 2;
+    pub const COUNT: usize = 2;
 
     pub fn services(self) -> usize
         ensures { λ n. ⌜ n ≡ self .services ⌝ }

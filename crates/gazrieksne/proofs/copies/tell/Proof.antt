@@ -1,0 +1,50 @@
+-- `tell` meets its contract.
+use Prim.Native.Nat.{ℕ, suc, _+_, _-_, _*_, _^_, _≤_, _<_}
+use native.Mathlib.Omega.{arith}
+use mathlib.Core.Path.{_≡_, refl, sym, ap, ap₂, _∙_, subst}
+use borrow.Author.Needs.{needs}
+use lib.ListN.{length, getD, set, length-set}
+use Rattle.tidy.specs.Answers.{number}
+use Rattle.gazrieksne.specs.Copies.{written-answer}
+use borrow.Author.Needs.{needs}
+use Rattle.gazrieksne.proofs.copies.tell.Statement.{statement}
+use Rattle.gazrieksne.proofs.copies.tell.Tie as tie
+
+enum-known-written : tie.Need-enum-known-written
+enum-known-written c = search needs
+
+enum-known-written-2 : tie.Need-enum-known-written-2
+enum-known-written-2 c = search needs
+
+group-requires : tie.Need-group-requires
+group-requires c κs = search needs
+
+number-requires : tie.Need-number-requires
+number-requires c κs = search needs
+
+wide-requires : tie.Need-wide-requires
+wide-requires c κs = search needs
+
+returns : tie.Need-returns
+returns c =
+    let e = c .before .before .written .given .1 in
+    (sym (ap number e), sym (ap written-answer e))
+
+returns-2 : tie.Need-returns-2
+returns-2 c =
+    let e = c .before .before .before .before .before .written2 .given .1 in (
+      c .wide .ensures ∙ c .before .number .ensures ∙ sym (ap number e),
+      simp (c .before .before .before .group .ensures) (sym (ap written-answer e)),
+    )
+
+pub tell-spec : {M : Type 1} → statement M
+tell-spec =
+    tie.close
+    (tie.spec
+    enum-known-written
+    enum-known-written-2
+    group-requires
+    number-requires
+    wide-requires
+    returns
+    returns-2)

@@ -1,0 +1,101 @@
+-- `put_of_service` meets its contract.
+use Prim.Native.Nat.{ℕ, suc, _+_, _-_, _*_, _^_, _≤_, _<_}
+use native.Mathlib.Omega.{arith}
+use mathlib.Core.Path.{_≡_, refl, sym, ap, ap₂, _∙_, subst}
+use borrow.Author.Needs.{needs}
+use lib.ListN.{length, getD, set, length-set}
+use mathlib.Core.Bool.{Bool}
+use mathlib.Core.List.{List}
+use Rattle.finite.specs.Below.{only, sum-below}
+use Rattle.finite.proofs.Sums.{sum-start, sum-next, sum-part}
+use Rattle.records.specs.declared.Records.{Records}
+use Rattle.records.specs.Told.{told}
+use Rattle.tidy.specs.Words.{concat-below}
+use Rattle.tidy.specs.Copy.{pair-if, service-pairs, service-count}
+use Rattle.tidy.specs.Inner.Put.{put}
+use Rattle.tidy.proofs.Barred.{pieces-length, pair-length}
+use Rattle.tidy.proofs.Put.{record-start, record-next}
+use Rattle.tidy.proofs.pairs.put_of_service.Statement.{statement}
+use Rattle.tidy.proofs.pairs.put_of_service.Tie as tie
+
+-- the words of the pair with cabinet c, and how many pairs that is
+abbrev piece : Records → ℕ → ℕ → List ℕ
+piece records i c = pair-if (told records .barred i c) i c
+
+abbrev one : Records → ℕ → ℕ → ℕ
+one records i c = only (told records .barred i c) 1
+
+-- the pairs before cabinet c take no more room than all
+so-far : (records : Records) (i c : ℕ) → c < told records .s
+    → sum-below c (one records i) + one records i c ≤ service-count (told records) i
+unfolding service-count
+so-far records i c h =
+    omega (arith, sum-next c (one records i), sum-part (c + 1) (told records .s) (one records i) (omega arith))
+
+abbrev Inv-loop : tie.InvT-loop
+Inv-loop out₀ at records i cabinets next₀ c₀ out next c = (cabinets ≡ told records .s) × (c ≤ cabinets) × (length out ≡ length out₀) × (next ≡ at + 4 * sum-below c (one records i)) × (out ≡ put out₀ at (concat-below c (piece records i)))
+
+abbrev μ-loop : tie.MeasureT-loop
+μ-loop out₀ at records i cabinets next₀ c₀ out next c = cabinets - c
+
+loop-holds : tie.Need-loop-holds Inv-loop μ-loop
+unfolding told
+loop-holds c = (refl, omega arith, refl, omega (arith, sum-start (one (c .before .args .records) (c .before .args .i))), record-start _ _ _)
+
+is-barred-requires : tie.Need-is-barred-requires Inv-loop μ-loop
+is-barred-requires c κs = search needs
+
+put-pair-if-requires : tie.Need-put-pair-if-requires Inv-loop μ-loop
+put-pair-if-requires c κs =
+    let l = c .before .before .before .loop in
+    let a = c .before .before .before .before .before .args in
+    let b : only (c .is-barred .result) 1 ≡ one (a .records) (a .i) (l .c) = ap (λ (t : Bool). only t 1) (c .is-barred .ensures) in
+    let f = so-far (a .records) (a .i) (l .c) (omega (arith, l .inv .0)) in
+    (c .before .before .before .before .before .pre .0, omega (arith, l .inv .0, c .before .before .before .before .before .pre .1), omega (arith, b, f, c .before .before .before .before .before .pre .2, l .inv .2, l .inv .3))
+
+add-c : tie.Need-add-c Inv-loop μ-loop
+add-c c = search needs
+
+loop-less : tie.Need-loop-less Inv-loop μ-loop
+loop-less c = search needs
+
+loop-again : tie.Need-loop-again Inv-loop μ-loop
+loop-again c =
+    let l = c .before .before .before .before .before .before .loop in
+    let a = c .before .before .before .before .before .before .before .before .args in
+    let b : only (c .before .before .before .is-barred .result) 1 ≡ one (a .records) (a .i) (l .c) = ap (λ (t : Bool). only t 1) (c .before .before .before .is-barred .ensures) in
+    let f = so-far (a .records) (a .i) (l .c) (omega (arith, l .inv .0)) in
+    let k = pieces-length (piece (a .records) (a .i)) (one (a .records) (a .i)) (λ d. pair-length (told (a .records) .barred (a .i) d) (a .i) d) (l .c) in
+    let e =
+    c .before .before .put-pair-if .ensures .1
+    ∙ ap₂ (λ (o : List ℕ) (t : Bool). put o (l .next) (pair-if t (a .i) (l .c))) (l .inv .4) (c .before .before .before .is-barred .ensures)
+    ∙ record-next (piece (a .records) (a .i)) (a .out .now) (a .at) (l .c) (l .next) (omega (arith, k, f, c .before .before .before .before .before .before .before .before .pre .2)) (omega (arith, k, l .inv .3)) in
+    (l .inv .0, omega arith, search needs, omega (arith, c .before .before .put-pair-if .ensures .0, b, l .inv .3, sum-next (l .c) (one (a .records) (a .i))), e)
+
+same-length : tie.Need-same-length Inv-loop μ-loop
+same-length c = search needs
+
+returns : tie.Need-returns Inv-loop μ-loop
+unfolding service-pairs service-count
+returns c =
+    let l = c .before .loop in
+    let a = c .before .before .before .args in
+    let e : l .c ≡ told (a .records) .s = omega (arith, l .inv .0, l .inv .1) in (
+      l .inv .3 ∙ ap (λ (m : ℕ). a .at + 4 * sum-below m (one (a .records) (a .i))) e,
+      l .inv .4 ∙ ap (λ (m : ℕ). put (a .out .now) (a .at) (concat-below m (piece (a .records) (a .i)))) e,
+    )
+
+pub put-of-service-spec : {M : Type 1} → statement M
+put-of-service-spec =
+    tie.close
+    (tie.spec
+    Inv-loop
+    μ-loop
+    loop-holds
+    is-barred-requires
+    put-pair-if-requires
+    add-c
+    loop-less
+    loop-again
+    same-length
+    returns)

@@ -1,0 +1,49 @@
+// Where the blocks of a copy start and end, for counts within the limits of a sheet.
+ghost use mathlib.Core.Path.{_≡_};
+ghost use Rattle.sheet.specs.Limits.{max-services, max-cabinets, max-streams, max-pairs};
+ghost use Prim.Native.Nat.{_≤_};
+ghost use Rattle.tidy.specs.Copy.{cabinets-from, streams-from, streams-end, fourth-size, fourth-from};
+use sheet::Sheet;
+
+pub(crate) fn cabinets_from(r: usize) -> usize
+    requires { ⌜ r ≤ max-services ⌝ }
+    ensures { λ n. ⌜ n ≡ cabinets-from r ⌝ }
+{
+    Sheet::HEADER + Sheet::SERVICE * r
+}
+
+pub(crate) fn streams_from(r: usize, s: usize) -> usize
+    requires { ⌜ (r ≤ max-services) × (s ≤ max-cabinets) ⌝ }
+    ensures { λ n. ⌜ n ≡ streams-from r s ⌝ }
+{
+    cabinets_from(r) + Sheet::CABINET * s
+}
+
+pub(crate) fn streams_end(r: usize, s: usize, q: usize) -> usize
+    requires { ⌜ (r ≤ max-services) × (s ≤ max-cabinets) × (q ≤ max-streams) ⌝ }
+    ensures { λ n. ⌜ n ≡ streams-end r s q ⌝ }
+{
+    streams_from(r, s) + Sheet::STREAM * q
+}
+
+// The bytes of the fourth block: none without a pair.
+pub(crate) fn fourth_size(pairs: usize) -> usize
+    requires { ⌜ pairs ≤ max-pairs ⌝ }
+    ensures { λ n. ⌜ n ≡ fourth-size pairs ⌝ }
+{
+    if pairs == 0 {
+        return 0;
+    }
+    Sheet::COUNT + Sheet::PAIR * pairs
+}
+
+// The eighth word: 0 without a pair.
+pub(crate) fn fourth_from(r: usize, s: usize, q: usize, pairs: usize) -> usize
+    requires { ⌜ (r ≤ max-services) × (s ≤ max-cabinets) × (q ≤ max-streams) ⌝ }
+    ensures { λ n. ⌜ n ≡ fourth-from r s q pairs ⌝ }
+{
+    if pairs == 0 {
+        return 0;
+    }
+    streams_end(r, s, q)
+}
