@@ -3,6 +3,7 @@ pub mod Given
 pub mod Groups
 pub mod Order
 pub mod Promises
+pub mod Same
 mod Sharing
 mod There
 mod Ladder

@@ -18,6 +18,7 @@ use Rattle.sheet.specs.Refusals.{Rule, first-applying}
 use Rattle.sheet.specs.Reading.{rules, answered, reading}
 use Rattle.sheet.specs.Records.{there, service-record, cabinet-record, stream-record, pair-record, bars}
 use Rattle.sheet.specs.Instance.{WellFormed, names, some-names, instance}
+use Rattle.sheet.specs.Said.{Padded, Said}
 use Rattle.sheet.specs.declared.Sheet.{Sheet}
 use Rattle.sheet.specs.declared.Cabinet.{Cabinet}
 use Rattle.sheet.specs.declared.Stream.{Stream}
@@ -28,6 +29,7 @@ use Rattle.sheet.specs.declared.CabinetRecord.the-variants as cabinets
 use Rattle.sheet.specs.declared.StreamRecord.the-variants as streams
 use Rattle.sheet.specs.declared.PairRecord.{PairRecord}
 use Rattle.sheet.specs.declared.PairRecord.the-variants as pairs
+use Rattle.sheet.proofs.Same.{records-padded}
 use Rattle.sheet.proofs.Passed.{Counted, counted, inside, pairs-inside}
 
 -- ---- none of the rules applies
@@ -212,6 +214,13 @@ pub field-at : (n : ℕ) (f : ℕ → ℕ) (d : ℕ) → d < n → only (ltb d n
 unfolding only
 field-at n f d k = rw (lt-ltb d n k)
 
+-- the instance of any bytes has no fields but those of its records
+pub padded : (bytes : List ℕ) → Padded (instance bytes)
+unfolding instance
+padded bytes =
+    records-padded _ _ _ (service (header bytes) bytes) (cabinet (header bytes) bytes) (stream (header bytes) bytes)
+    (some-names (header bytes .pairs) (pair (header bytes) bytes))
+
 -- ---- an accepted sheet
 
 module _ (bytes : List ℕ) (h : Sheet) (a : reading bytes ≡ Accepted h) where
@@ -345,10 +354,13 @@ module _ (bytes : List ℕ) (h : Sheet) (a : reading bytes ≡ Accepted h) where
         bars = λ i c e. bar-named i c (sym (bar-is i c) ∙ e);
       }
 
-  -- and of the root's parent
-  pub root-parent : instance bytes .parent 0 ≡ 65535
+  root-none : instance bytes .parent 0 ≡ 65535
   unfolding instance some-parent-wrong wrong-parent
-  root-parent = at-root (λ d. cab d .parent) ∙ eqb-true (cab 0 .parent) 65535 (not-false _ (none-at (header bytes .cabinets) _ (clean .parents) 0 (sizes .some-cabinet)))
+  root-none = at-root (λ d. cab d .parent) ∙ eqb-true (cab 0 .parent) 65535 (not-false _ (none-at (header bytes .cabinets) _ (clean .parents) 0 (sizes .some-cabinet)))
+
+  -- and that there is nothing in it but its records
+  pub said : Said (instance bytes)
+  said = record { padded = padded bytes; root-parent = root-none }
 
   -- every record that the sheet has is given, with the fields of the instance
   pub service-given :

@@ -5,5 +5,6 @@ pub mod Conditions
 pub mod Refusals
 pub mod Reading
 pub mod Instance
+pub mod Said
 pub mod Records
 pub mod Inner

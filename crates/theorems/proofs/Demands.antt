@@ -5,28 +5,31 @@
 --   `checked`                               what `checker::check` answers       crates/checker/src/lib.rt
 --   `planned`, `OutputAfter`, `table-after` what `planner::plan` answers, and what output and tables hold after it
 --                                                                               crates/planner/src/lib.rt
--- and the C entry points `gz_read`, `gz_check` and `gz_plan` have the same clauses in crates/gazrieksne/src. What the program prints is
+--   `tidy-answer`, `output-after`           what `tidy::tidy` answers, and what its output holds after it
+--                                                                               crates/tidy/src/lib.rt
+-- and the C entry points `gz_read`, `gz_check`, `gz_plan` and `gz_tidy` have the same clauses in crates/gazrieksne/src. What the program prints is
 -- `printed` in crates/report/specs/Text.antt, by the contract of `report::respond`.
 use Prim.Native.Nat.{ℕ, _-_, _*_, _^_, _≤_, _<_}
 use mathlib.Core.Logic.{_↔_, _⊎_, inl, inr}
-use mathlib.Core.Path.{_≡_, refl, _∙_}
+use mathlib.Core.Path.{_≡_, refl, ap, _∙_}
 use mathlib.Core.Bool.{true}
 use mathlib.Core.List.{List}
 use lib.ListN.{length, take}
 use Rattle.sheet.specs.Reading as reader
 use Rattle.sheet.specs.Reading.{reading}
-use Rattle.sheet.specs.Instance.{instance}
+use Rattle.sheet.specs.Instance.{Instance, WellFormed, instance}
+use Rattle.sheet.specs.Said.{Said}
 use Rattle.sheet.specs.Refusals.{number-of, giving, first-of, in-order}
 use Rattle.sheet.specs.declared.Sheet.{Sheet}
 use Rattle.sheet.specs.declared.Refusal.{Refusal}
 use Rattle.sheet.specs.declared.Reading.the-variants as readings
-use Rattle.sheet.proofs.Promises.{well-formed}
+use Rattle.sheet.proofs.Promises.{well-formed, said}
 use Rattle.sheet.proofs.Order.{given-first, reading-first, reading-order}
 use Rattle.subsets.specs.Order.{NotAfter}
 use Rattle.embedding.specs.Definition1.{Feasible, cost}
 use Rattle.embedding.specs.Limits.{Limits}
 use Rattle.embedding.specs.Road.{road}
-use Rattle.embedding.specs.Plan.{place}
+use Rattle.embedding.specs.Plan.{place, cheapest}
 use Rattle.embedding.specs.First.{first-plan, places}
 use Rattle.embedding.specs.Splits.{weighed}
 use Rattle.embedding.proofs.Theorems.{plan-iff-mapping, cheapest-mapping}
@@ -42,8 +45,16 @@ use Rattle.planner.specs.Lent.{table-after, OutputAfter}
 use Rattle.planner.specs.declared.Planned.{Planned}
 use Rattle.planner.specs.declared.Planned.the-variants.{Plan, Refused}
 use Rattle.planner.proofs.Order.{plan-first, plan-order}
+use Rattle.tidy.specs.Copy.{tidied}
+use Rattle.tidy.specs.Answers as tidy
+use Rattle.tidy.specs.Answers.{tidy-answer, output-after}
+use Rattle.tidy.specs.Agree.{Agree}
+use Rattle.tidy.specs.declared.Written as copies
+use Rattle.tidy.specs.declared.Written.the-variants as sheets
+use Rattle.tidy.proofs.Answers.{tidy-first, tidy-order}
+use Rattle.theorems.proofs.Copying as copying
 use Rattle.theorems.proofs.Planning as planning
-use Rattle.theorems.specs.Promised.{Given, Maps, NoneCheaper, Best, Left}
+use Rattle.theorems.specs.Promised.{Given, Maps, NoneCheaper, Best, Left, SheetLeft}
 
 -- ---- Demand 1
 
@@ -181,3 +192,63 @@ first-of-the-cheapest bytes output output' costs choices k n e o = (
   plan-written bytes output output' costs choices k n e o .0,
   planning.none-before bytes output output' costs choices k n e o,
 )
+
+-- ---- A tidy copy
+
+-- Any bytes, with any output lent, get the length of a copy or one refusal, from 1 to 9, 18, 19 or 21, in the group of its number.
+-- (`tidy::tidy`, clause `answer`.)
+pub tidy-answers :
+    (bytes : List ℕ) (output : ℕ) →
+    ((n : ℕ) × (tidy-answer bytes output ≡ sheets.Bytes n)) ⊎ ((f : Refusal) × (tidy-answer bytes output ≡ sheets.Refused f) × Given tidy.tidy-numbers f)
+tidy-answers = copying.either
+
+-- Its rules stand in the order of giving, 21 last, and the number given is the first in that order of which a rule applies.
+pub tidy-gives :
+    (bytes : List ℕ) (output : ℕ) →
+    (in-order giving (tidy.all-rules bytes output) ≡ true) × (tidy.number (tidy-answer bytes output) ≡ first-of giving (tidy.all-rules bytes output))
+tidy-gives bytes output =
+    let o = tidy-order bytes output in
+    (o, tidy-first bytes output ∙ given-first (tidy.all-rules bytes output) o)
+
+-- With a length the copy of the sheet's instance stands at the front of the output, and is that long; all behind it stays. After a refusal all
+-- of the output stays. (`tidy::tidy`, clauses `answer` and `output`.)
+pub tidy-memory :
+    (bytes output output' : List ℕ) (a : copies.Written) →
+    a ≡ tidy-answer bytes (length output) →
+    output' ≡ output-after (tidied (instance bytes)) a output →
+    SheetLeft (tidied (instance bytes)) a output output'
+tidy-memory = copying.left
+
+-- The instance of every sheet that the reader accepts is well formed and says nothing but the sheet's records; and for every such instance the
+-- copy is accepted and says the same instance. The theorems below follow from these two.
+pub instance-said :
+    (bytes : List ℕ) (h : Sheet) → reading bytes ≡ readings.Accepted h → WellFormed (instance bytes) × Said (instance bytes)
+instance-said bytes h reads = (well-formed bytes h reads, said bytes h reads)
+
+pub copy-says-the-same :
+    (I : Instance) → WellFormed I → Said I → ((k : Sheet) × (reading (tidied I) ≡ readings.Accepted k)) × (instance (tidied I) ≡ I)
+copy-says-the-same = copying.says-the-same
+
+-- Two accepted sheets have equal copies exactly when their records agree, barred pairs compared as a set.
+pub equal-copies :
+    (bytes : List ℕ) (h : Sheet) → reading bytes ≡ readings.Accepted h →
+    (others : List ℕ) (k : Sheet) → reading others ≡ readings.Accepted k →
+    (tidied (instance bytes) ≡ tidied (instance others)) ↔ Agree h bytes k others
+equal-copies = copying.equal
+
+-- Tidying a tidy copy changes no byte, and answers the same length.
+pub tidy-twice :
+    (bytes : List ℕ) (h : Sheet) → reading bytes ≡ readings.Accepted h →
+    (tidied (instance (tidied (instance bytes))) ≡ tidied (instance bytes))
+    × ((output : ℕ) → tidy-answer (tidied (instance bytes)) output ≡ tidy-answer bytes output)
+tidy-twice bytes h reads = (ap tidied (copying.same bytes h reads .1), copying.same-tidied bytes h reads)
+
+-- Sheet and copy have the same cheapest cost, or both no plan; and so, with any memory, the same answer of the planner, and for any plan that of
+-- the check.
+pub copy-plans-alike :
+    (bytes : List ℕ) (h : Sheet) → reading bytes ≡ readings.Accepted h →
+    (cheapest (instance (tidied (instance bytes))) ≡ cheapest (instance bytes))
+    × ((output costs choices : ℕ) → planned (tidied (instance bytes)) output costs choices ≡ planned bytes output costs choices)
+    × ((plan : List ℕ) → checked (tidied (instance bytes)) plan ≡ checked bytes plan)
+copy-plans-alike bytes h reads =
+    (ap cheapest (copying.same bytes h reads .1), copying.same-planned bytes h reads, copying.same-checked bytes h reads)

@@ -1,8 +1,8 @@
 -- The worked cases that are proved, 01's "Measured roads" and those of 02: for each call on the bytes of a sheet, the answer expected.
-use Prim.Native.Nat.{ℕ, _+_, _*_, _/_, _%_, _^_}
+use Prim.Native.Nat.{ℕ, _+_, _*_, _^_}
 use mathlib.Core.Bool.{Bool, true, _&&_}
 use mathlib.Core.Path.{_≡_}
-use mathlib.Core.List.{List, [], _∷_}
+use mathlib.Core.List.{List, [], _∷_, _++_}
 use lib.Dec.{eqb}
 use lib.ListN.{length}
 use Rattle.finite.specs.Below.{_⇒_, all-below}
@@ -18,11 +18,10 @@ use Rattle.planner.specs.Answers as planner
 use Rattle.planner.specs.Answers.{entries, cost, planned}
 use Rattle.planner.specs.declared.Planned.{Planned}
 use Rattle.planner.specs.declared.Planned.the-variants as plans
-
--- the bytes of 16-bit words, low byte first
-abbrev pub from-words : List ℕ → List ℕ
-from-words [] = []
-from-words (w ∷ ws) = w % 256 ∷ w / 256 ∷ from-words ws
+use Rattle.tidy.specs.Words.{from-words}
+use Rattle.tidy.specs.Copy.{tidied}
+use Rattle.tidy.specs.Answers.{tidy-answer}
+use Rattle.tidy.specs.declared.Written.the-variants.{Bytes}
 
 -- a call, what it is given, and what it is to answer
 pub data Case : Type 0 where
@@ -38,6 +37,8 @@ pub data Case : Type 0 where
   puts : List ℕ → ℕ → ℕ → ℕ → Case
   -- the planner, with memory that just suffices: there is a plan, and this is what it writes
   writes : List ℕ → List ℕ → Case
+  -- the call that tidies, of bytes, with an output that just suffices: this is the copy
+  tidies : List ℕ → List ℕ → Case
 
 -- the planner's answer where the output has r places and each table s × 2^r entries
 abbrev pub answer-to : List ℕ → Planned
@@ -56,6 +57,7 @@ Holds (plan bytes answer) = answer-to bytes ≡ answer
 Holds (plan-costs bytes k) = cost (answer-to bytes) ≡ k
 Holds (puts bytes k i c) = all-put (instance bytes) k i c ≡ true
 Holds (writes bytes written) = (planner.number (answer-to bytes) ≡ 0) × (places (instance bytes .r) (first-plan (instance bytes)) ≡ written)
+Holds (tidies bytes copy) = (tidy-answer bytes (length copy) ≡ Bytes (length copy)) × (tidied (instance bytes) ≡ copy)
 
 -- every case of a table holds
 abbrev pub AllHold : List Case → Type 0
@@ -115,6 +117,17 @@ one-child =
     ∷ 0 ∷ 0 ∷ 0 ∷ 0 ∷ 0 ∷ 0 ∷ 0 ∷ []
     )
 
+-- two services of 1 on one cabinet, and a stream of 5 each way: the later service's first
+abbrev pub both-ways : List ℕ
+both-ways = from-words (2 ∷ 1 ∷ 2 ∷ 16 ∷ 20 ∷ 34 ∷ 46 ∷ 0 ∷ 1 ∷ 1 ∷ 65535 ∷ 4 ∷ 5 ∷ 0 ∷ 0 ∷ 0 ∷ 0 ∷ 1 ∷ 0 ∷ 5 ∷ 0 ∷ 1 ∷ 5 ∷ [])
+
+-- one cabinet and nothing else, at an odd offset, after the streams' and before the services' empty block; and the same without a gap
+abbrev pub lone-odd : List ℕ
+lone-odd = from-words (0 ∷ 1 ∷ 0 ∷ 31 ∷ 17 ∷ 16 ∷ 31 ∷ 0 ∷ []) ++ (9 ∷ from-words (65535 ∷ 4 ∷ 5 ∷ 0 ∷ 0 ∷ 0 ∷ 0 ∷ []))
+
+abbrev pub lone : List ℕ
+lone = from-words (0 ∷ 1 ∷ 0 ∷ 16 ∷ 16 ∷ 30 ∷ 30 ∷ 0 ∷ 65535 ∷ 4 ∷ 5 ∷ 0 ∷ 0 ∷ 0 ∷ 0 ∷ [])
+
 -- the table
 abbrev pub cases : List Case
 cases =
@@ -167,4 +180,13 @@ cases =
     -- 18 before 19, and 6 before 18
     ∷ read (m-with 68 (2 ∷ 9 ∷ 9 ∷ [])) 18
     ∷ read (road-barring 10001 6 68 (2 ∷ 9 ∷ 9 ∷ [])) 6
+    -- copies: of M, which is tidy; of a block of no pairs; of a pair after a gap; of pairs in any order, with a repeat; of pairs whose
+    -- services rise as their cabinets fall; of streams, which keep their order; of an odd layout with empty blocks
+    ∷ tidies road-m road-m
+    ∷ tidies (m-with 68 (0 ∷ [])) road-m
+    ∷ tidies (m-with 70 (7 ∷ 1 ∷ 0 ∷ 0 ∷ [])) m-barred
+    ∷ tidies (m-with 68 (3 ∷ 1 ∷ 2 ∷ 0 ∷ 0 ∷ 1 ∷ 2 ∷ [])) (m-with 68 (2 ∷ 0 ∷ 0 ∷ 1 ∷ 2 ∷ []))
+    ∷ tidies (m-with 68 (2 ∷ 1 ∷ 0 ∷ 0 ∷ 2 ∷ [])) (m-with 68 (2 ∷ 0 ∷ 2 ∷ 1 ∷ 0 ∷ []))
+    ∷ tidies both-ways both-ways
+    ∷ tidies lone-odd lone
     ∷ []

@@ -4,7 +4,7 @@ use mathlib.Core.Logic.{_⊎_}
 use mathlib.Core.Path.{_≡_}
 use mathlib.Core.Bool.{true, false}
 use mathlib.Core.List.{List}
-use lib.ListN.{length, getD}
+use lib.ListN.{length, getD, take}
 use Rattle.sheet.specs.Refusals.{one-of, refusal, number-of}
 use Rattle.sheet.specs.Instance.{Instance}
 use Rattle.sheet.specs.declared.Refusal.{Refusal}
@@ -16,6 +16,8 @@ use Rattle.planner.specs.Answers.{entries}
 use Rattle.planner.specs.Lent.{used}
 use Rattle.planner.specs.declared.Planned.{Planned}
 use Rattle.planner.specs.declared.Planned.the-variants.{Plan, Refused}
+use Rattle.tidy.specs.declared.Written as tidy
+use Rattle.tidy.specs.declared.Written.the-variants as sheets
 
 -- the refusal stands in the group of its number, and the number is one of these
 pub record Given (numbers : List ℕ) (f : Refusal) : Type 0 where
@@ -59,3 +61,8 @@ pub record Left (I : Instance) (a : Planned) (output costs choices output' costs
   pub untouched : used a ≡ false → (costs' ≡ costs) × (choices' ≡ choices)
   pub planned : (k n : ℕ) → a ≡ Plan k n → Written (I .r) output output'
   pub refused : (f : Refusal) (n : ℕ) → a ≡ Refused f n → output' ≡ output
+
+-- what a call that writes a sheet leaves in its output, by its answer: these bytes at the front, and all else as it was
+pub record SheetLeft (sheet : List ℕ) (a : tidy.Written) (output output' : List ℕ) : Type 0 where
+  pub written : (n : ℕ) → a ≡ sheets.Bytes n → (n ≡ length sheet) × (take n output' ≡ sheet) × Written n output output'
+  pub refused : (f : Refusal) → a ≡ sheets.Refused f → output' ≡ output

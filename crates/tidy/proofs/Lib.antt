@@ -1,7 +1,12 @@
--- Words read back, the copy's blocks, and what the crates above may rely on.
-pub mod Concat
-pub mod Put
-pub mod Barred
-pub mod Fourth
+-- Words read back, the copy's blocks, and what the crates above may rely on: Accepted, Copies, Agreeing and Answers.
+mod Concat
+mod Put
+mod Barred
+mod Fourth
 pub mod Lengths
-pub mod Whole
+mod Whole
+mod Fields
+pub mod Accepted
+pub mod Copies
+pub mod Agreeing
+pub mod Answers

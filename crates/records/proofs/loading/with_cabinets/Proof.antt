@@ -4,7 +4,7 @@ use native.Mathlib.Omega.{arith}
 use mathlib.Core.Path.{_≡_, refl, ap, _∙_, subst}
 use borrow.Author.Needs.{needs}
 use Rattle.sheet.specs.Instance.{instance, WellFormed}
-use Rattle.sheet.proofs.Promises.{well-formed, root-parent}
+use Rattle.sheet.proofs.Promises.{well-formed, said}
 use Rattle.records.specs.Inner.Loading.{Loading}
 use Rattle.records.proofs.Columns.{column-next}
 use Rattle.sheet.specs.declared.Cabinet.{Cabinet}
@@ -107,7 +107,7 @@ parent-fits : (c : tie.After-cabinet-at Inv-loop μ-loop) → instance (start-be
 parent-fits c = go (eqb (at-loop-before-cabinet-at c .loop .c) 0) refl
   where
     go : (t : Bool) → eqb (at-loop-before-cabinet-at c .loop .c) 0 ≡ t → instance (start-before-cabinet-at c .args .bytes .now) .parent (at-loop-before-cabinet-at c .loop .c) < 65536
-    go true e = omega (arith, ap (instance (start-before-cabinet-at c .args .bytes .now) .parent) (eqb-true (at-loop-before-cabinet-at c .loop .c) 0 e), root-parent (start-before-cabinet-at c .args .bytes .now) (start-before-cabinet-at c .args .sheet) (start-before-cabinet-at c .pre .0))
+    go true e = omega (arith, ap (instance (start-before-cabinet-at c .args .bytes .now) .parent) (eqb-true (at-loop-before-cabinet-at c .loop .c) 0 e), said (start-before-cabinet-at c .args .bytes .now) (start-before-cabinet-at c .args .sheet) (start-before-cabinet-at c .pre .0) .root-parent)
     go false e = let z = eqb-false (at-loop-before-cabinet-at c .loop .c) 0 e in omega (arith, place c, well c .parents (at-loop-before-cabinet-at c .loop .c) (omega (arith, z)))
 
 short-requires : tie.Need-short-requires Inv-loop μ-loop

@@ -1,0 +1,114 @@
+-- What the definitions of the tidy copy give: the work behind the theorems about it.
+use Prim.Native.Nat.{ℕ, _+_, _-_, _≤_, _<_}
+use native.Mathlib.Omega.{arith}
+use mathlib.Core.Logic.{_↔_, _⊎_, inl, inr, ⊎-elim}
+use mathlib.Core.Path.{_≡_, refl, sym, ap, _∙_, subst}
+use mathlib.Core.List.{List, _++_}
+use lib.ListN.{length, take, drop, getD, length-append, length-drop}
+use lib.Seq.{take-at, getD-append-add, getD-drop}
+use Rattle.sheet.specs.Refusals.{first-applying, number-of}
+use Rattle.sheet.specs.Reading.{reading}
+use Rattle.sheet.specs.Instance.{Instance, WellFormed, instance}
+use Rattle.sheet.specs.Said.{Said}
+use Rattle.sheet.specs.declared.Sheet.{Sheet}
+use Rattle.sheet.specs.declared.Refusal.{Refusal}
+use Rattle.sheet.specs.declared.Reading.{Reading}
+use Rattle.sheet.specs.declared.Reading.the-variants.{Accepted}
+use Rattle.sheet.proofs.Promises.{well-formed, said}
+use Rattle.checker.specs.Check.{plan-checked, checked-after, checked}
+use Rattle.planner.specs.Answers as plans
+use Rattle.planner.specs.Answers.{lender-rules, lent, planned}
+use Rattle.tidy.specs.Copy.{copy-length, tidied}
+use Rattle.tidy.specs.Answers as answers
+use Rattle.tidy.specs.Answers.{tidy-numbers, written, tidy-answer, output-after}
+use Rattle.tidy.specs.Agree.{Agree}
+use Rattle.tidy.specs.declared.Written as tidy
+use Rattle.tidy.specs.declared.Written.the-variants.{Bytes, Refused}
+use Rattle.tidy.proofs.Accepted.{accepted}
+use Rattle.tidy.proofs.Agreeing.{agree-iff}
+use Rattle.tidy.proofs.Answers.{tidy-answered, tidy-written}
+use Rattle.tidy.proofs.Copies.{same-copy}
+use Rattle.tidy.proofs.Lengths.{copied-length}
+use Rattle.theorems.specs.Promised.{Given, Written, SheetLeft}
+
+-- ---- the answer, and the output after it
+
+pub either : (bytes : List ℕ) (n : ℕ) →
+    ((m : ℕ) × (tidy-answer bytes n ≡ Bytes m)) ⊎ ((f : Refusal) × (tidy-answer bytes n ≡ Refused f) × Given tidy-numbers f)
+either bytes n = ⊎-elim inl (λ a. inr (a .0, a .1, record { grouped = a .2; listed = a .3 })) (tidy-answered bytes n)
+
+-- bytes at the front of some others, and those behind them
+front : (n : ℕ) (sheet output output' : List ℕ) → n ≡ length sheet → n ≤ length output → output' ≡ sheet ++ drop n output
+    → (take n output' ≡ sheet) × Written n output output'
+front n sheet output output' e h o = (
+  ap (take n) o ∙ take-at sheet (drop n output) n (sym e),
+  record {
+    there = h;
+    length-stays = ap length o ∙ (let l : length (sheet ++ drop n output) ≡ length output = omega (arith, length-append sheet (drop n output), length-drop n output) in l);
+    rest = λ i k.
+        ap (λ (l : List ℕ). getD l i 0) o
+        ∙ ap (λ (m : ℕ). getD (sheet ++ drop n output) m 0) (let q : i ≡ length sheet + (i - n) = omega arith in q)
+        ∙ getD-append-add sheet (drop n output) (i - n) 0
+        ∙ getD-drop n output (i - n) 0
+        ∙ ap (λ (m : ℕ). getD output m 0) (let q : n + (i - n) ≡ i = omega arith in q);
+  },
+)
+
+pub left : (bytes output output' : List ℕ) (a : tidy.Written) →
+    a ≡ tidy-answer bytes (length output) →
+    output' ≡ output-after (tidied (instance bytes)) a output →
+    SheetLeft (tidied (instance bytes)) a output output'
+unfolding output-after
+left bytes output output' a e o =
+    record {
+      written = λ n q.
+          let w = tidy-written bytes (length output) n (sym e ∙ q) in
+          let l : n ≡ length (tidied (instance bytes)) = w .1 ∙ sym (copied-length (instance bytes)) in
+          let f = front n (tidied (instance bytes)) output output' l (w .2) (o ∙ ap (λ (b : tidy.Written). output-after (tidied (instance bytes)) b output) q) in
+          (l, f .0, f .1);
+      refused = λ f q. o ∙ ap (λ (b : tidy.Written). output-after (tidied (instance bytes)) b output) q;
+    }
+
+-- ---- the copy
+
+pub says-the-same : (I : Instance) → WellFormed I → Said I → ((k : Sheet) × (reading (tidied I) ≡ Accepted k)) × (instance (tidied I) ≡ I)
+says-the-same I W S = ((_, accepted I W (S .root-parent)), same-copy I W S)
+
+-- a call that answers by the instance alone, once a sheet is accepted, answers for the copy as for the sheet
+module _ (bytes : List ℕ) (h : Sheet) (reads : reading bytes ≡ Accepted h) where
+  abbrev I : Instance
+  I = instance bytes
+
+  abbrev copy : List ℕ
+  copy = tidied I
+
+  pub same : ((k : Sheet) × (reading copy ≡ Accepted k)) × (instance copy ≡ I)
+  same = says-the-same I (well-formed bytes h reads) (said bytes h reads)
+
+  pub same-planned : (output costs choices : ℕ) → planned copy output costs choices ≡ planned bytes output costs choices
+  unfolding planned
+  same-planned output costs choices =
+      ap (λ (r : Reading). plans.answered r (instance copy) output costs choices) (same .0 .1)
+      ∙ ap (λ (J : Instance). lent (first-applying (lender-rules J output costs choices)) J) (same .1)
+      ∙ sym (ap (λ (r : Reading). plans.answered r I output costs choices) reads)
+
+  pub same-checked : (plan : List ℕ) → checked copy plan ≡ checked bytes plan
+  unfolding checked checked-after
+  same-checked plan =
+      ap (λ (r : Reading). checked-after r (instance copy) plan) (same .0 .1)
+      ∙ ap (λ (J : Instance). plan-checked J plan) (same .1)
+      ∙ sym (ap (λ (r : Reading). checked-after r I plan) reads)
+
+  pub same-tidied : (n : ℕ) → tidy-answer copy n ≡ tidy-answer bytes n
+  unfolding tidy-answer answers.answered
+  same-tidied n =
+      ap (λ (r : Reading). answers.answered r (instance copy) n) (same .0 .1)
+      ∙ ap (λ (J : Instance). written (copy-length J) n) (same .1)
+      ∙ sym (ap (λ (r : Reading). answers.answered r I n) reads)
+
+-- equal copies have the same instance
+pub equal : (bytes : List ℕ) (h : Sheet) (reads : reading bytes ≡ Accepted h) (others : List ℕ) (k : Sheet) (reads' : reading others ≡ Accepted k) →
+    (tidied (instance bytes) ≡ tidied (instance others)) ↔ Agree h bytes k others
+equal bytes h reads others k reads' =
+    let agree = agree-iff bytes h reads others k reads' in
+    (λ e. agree .0 (sym (same bytes h reads .1) ∙ ap instance e ∙ same others k reads' .1), λ A. ap tidied (agree .1 A))

@@ -1,0 +1,91 @@
+-- Laws of the answers of the call that writes a copy: the numbers of its refusals, their groups and their order, and what is written.
+use Prim.Native.Nat.{ℕ, zero, suc, _+_, _≤_, _<_}
+use native.Mathlib.Omega.{arith}
+use mathlib.Core.Logic.{_⊎_, inl, inr}
+use mathlib.Core.Path.{_≡_, refl, sym, ap, _∙_}
+use mathlib.Core.Bool.{Bool, true, false}
+use mathlib.Core.List.{List, [], _∷_, _++_}
+use lib.Dec.{ltb}
+use lib.ListN.{length}
+use borrow.Author.Tests.{ltb-false}
+use Rattle.sheet.specs.Reading as reader
+use Rattle.sheet.specs.Reading.{reading}
+use Rattle.sheet.specs.Instance.{Instance, instance}
+use Rattle.sheet.specs.Refusals.{one-of, first-applying, refusal, number-of, giving, in-order}
+use Rattle.sheet.specs.declared.Sheet.{Sheet}
+use Rattle.sheet.specs.declared.Refusal.{Refusal}
+use Rattle.sheet.specs.declared.Reading.{Reading}
+use Rattle.sheet.specs.declared.Reading.the-variants as readings
+use Rattle.sheet.proofs.Groups.{number-refusal, own-group, reading-group, one-of-left, first-listed, reading-number}
+use Rattle.sheet.proofs.Order.{after-reader}
+use Rattle.tidy.specs.Copy.{copy-length}
+use Rattle.tidy.specs.Answers.{number, room-rules, all-rules, tidy-numbers, given, written, answered, tidy-answer}
+use Rattle.tidy.specs.declared.Written.{Written}
+use Rattle.tidy.specs.declared.Written.the-variants.{Bytes, Refused}
+
+-- ---- every answer
+
+-- a length, or one of the call's refusals in its own group
+abbrev pub Answered : Written → Type 0
+Answered a = ((n : ℕ) × (a ≡ Bytes n)) ⊎ ((f : Refusal) × (a ≡ Refused f) × (f ≡ refusal (number-of f)) × (one-of tidy-numbers (number-of f) ≡ true))
+
+room-answered : (size n m : ℕ) → first-applying (room-rules size n) ≡ m → Answered (given m size)
+room-answered size n zero e = inl (size, refl)
+room-answered size n (suc m) e =
+    inr (
+      refusal (suc m),
+      refl,
+      own-group (refusal (suc m)) (suc m) refl,
+      ap (one-of tidy-numbers) (number-refusal (suc m)) ∙ first-listed (one-of tidy-numbers) (room-rules size n) refl m e,
+    )
+
+pub tidy-answered : (bytes : List ℕ) (n : ℕ) → Answered (tidy-answer bytes n)
+unfolding tidy-answer answered written
+tidy-answered bytes n = go (reading bytes) refl
+  where
+    go : (r : Reading) → reading bytes ≡ r → Answered (answered r (instance bytes) n)
+    go (readings.Accepted h) e = room-answered (copy-length (instance bytes)) n _ refl
+    go (readings.Refused f) e =
+        inr (f, refl, reading-group bytes f e, one-of-left reader.reader-numbers (21 ∷ []) (number-of f) (reading-number bytes f e))
+
+-- ---- the order of giving
+
+own-number : (n size : ℕ) → number (given n size) ≡ n
+own-number zero size = refl
+own-number (suc n) size = number-refusal (suc n)
+
+-- the number of an answer is that of the first rule that applies
+pub tidy-first : (bytes : List ℕ) (n : ℕ) → number (tidy-answer bytes n) ≡ first-applying (all-rules bytes n)
+unfolding tidy-answer answered written
+tidy-first bytes n =
+    after-reader bytes (room-rules (copy-length (instance bytes)) n) (number (tidy-answer bytes n))
+    (λ h e. ap (λ (r : Reading). number (answered r (instance bytes) n)) e ∙ own-number (first-applying (room-rules (copy-length (instance bytes)) n)) (copy-length (instance bytes)))
+    (λ f e. ap (λ (r : Reading). number (answered r (instance bytes) n)) e)
+
+-- the call's rules stand in the order of giving
+pub tidy-order : (bytes : List ℕ) (n : ℕ) → in-order giving (all-rules bytes n) ≡ true
+unfolding reader.rules in-order
+tidy-order bytes n = refl
+
+-- ---- where a copy was written
+
+-- the sheet is accepted, the length is that of the copy, and the output has it
+pub tidy-written : (bytes : List ℕ) (n m : ℕ) → tidy-answer bytes n ≡ Bytes m
+    → ((h : Sheet) × (reading bytes ≡ readings.Accepted h)) × (m ≡ copy-length (instance bytes)) × (m ≤ n)
+unfolding tidy-answer answered written first-applying
+tidy-written bytes n m e = go (reading bytes) refl e
+  where
+    size : ℕ
+    size = copy-length (instance bytes)
+
+    room : (t : Bool) → ltb n size ≡ t → written size n ≡ Bytes m → (m ≡ size) × (m ≤ n)
+    room true q e = absurd (let w : Refused (refusal 21) ≡ Bytes m = simp q at e in let z : _≡_ {A = ℕ} 0 1 = cc in omega arith)
+    room false q e =
+        let w : Bytes size ≡ Bytes m = simp q at e in
+        let s : size ≡ m = cc in
+        (sym s, omega (arith, s, ltb-false n size q))
+
+    go : (r : Reading) → reading bytes ≡ r → answered r (instance bytes) n ≡ Bytes m
+        → ((h : Sheet) × (reading bytes ≡ readings.Accepted h)) × (m ≡ copy-length (instance bytes)) × (m ≤ n)
+    go (readings.Accepted h) q e = let w = room (ltb n size) refl e in ((h, q), w .0, w .1)
+    go (readings.Refused f) q e = absurd (let z : _≡_ {A = ℕ} 0 1 = cc in omega arith)
