@@ -1,4 +1,4 @@
-//! A second reader, check and planner of planning sheets.
+//! A second reader, check, planner and writer of tidy copies of planning sheets.
 //!
 //! It is written from the papers alone and is meant to be plainly right rather than fast: the
 //! planner tries every plan in order and keeps the first of the cheapest, and the splits weighed
@@ -10,6 +10,7 @@ pub mod bars;
 pub mod bound;
 pub mod build;
 pub mod check;
+pub mod copies;
 pub mod hex;
 pub mod limits;
 pub mod measured;
@@ -20,6 +21,7 @@ pub mod read;
 pub mod refusal;
 pub mod sheet;
 pub mod splits;
+pub mod tidy;
 pub mod tied;
 pub mod weigh;
 
@@ -30,4 +32,5 @@ pub use plan::{Answer, plan};
 pub use read::read;
 pub use refusal::group;
 pub use sheet::{Cabinet, Pair, Sheet, Stream};
+pub use tidy::tidy;
 pub use weigh::weigh;

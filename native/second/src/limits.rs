@@ -25,3 +25,7 @@ pub const STREAM: usize = 6;
 pub const COUNT: usize = 2;
 /// Bytes of a barred pair.
 pub const PAIR: usize = 4;
+
+/// Bytes of the longest tidy copy.
+pub const LONGEST_COPY: usize =
+    HEADER + SERVICE * SERVICES + CABINET * CABINETS + STREAM * STREAMS + COUNT + PAIR * MAX_PAIRS;
