@@ -11,6 +11,7 @@ pub mod bound;
 pub mod build;
 pub mod check;
 pub mod copies;
+pub mod form;
 pub mod hex;
 pub mod limits;
 pub mod measured;

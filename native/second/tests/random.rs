@@ -2,6 +2,7 @@
 
 use second::bars::Bars;
 use second::build::tight;
+use second::form::{Form, forms};
 use second::plan::solve;
 use second::random::damage::{Damage, damage};
 use second::random::road::{Kind, of_kind, road};
@@ -133,4 +134,55 @@ fn cabinets_numbered_anew_keep_their_order_and_their_cost() {
         moved += usize::from(sheet != before);
     }
     assert!(moved > 100, "{moved} roads with other numbers");
+}
+
+#[test]
+fn sheets_in_every_form() {
+    let mut random = Random::new(9);
+    let mut seen: BTreeMap<Form, usize> = BTreeMap::new();
+    for _ in 0..1000 {
+        let (_, sheet) = road(&mut random, SIZE);
+        let layout = layout(&mut random, &sheet);
+        for form in forms(&build(&sheet, &layout)) {
+            *seen.entry(form).or_default() += 1;
+        }
+    }
+    for form in Form::ALL {
+        let times = seen.get(&form).copied().unwrap_or(0);
+        assert!(times >= 20, "{form:?} {times} times");
+    }
+}
+
+/// Six orders of three blocks and 24 of four, each often.
+#[test]
+fn blocks_in_every_order() {
+    let mut random = Random::new(10);
+    let mut seen: BTreeMap<Vec<usize>, usize> = BTreeMap::new();
+    for _ in 0..8000 {
+        let (_, sheet) = road(&mut random, SIZE);
+        if sheet.services.is_empty() || sheet.streams.is_empty() {
+            continue;
+        }
+        let offsets = layout(&mut random, &sheet).offsets;
+        let mut order: Vec<usize> = (0..4).filter(|&block| offsets[block] != 0).collect();
+        order.sort_by_key(|&block| offsets[block]);
+        *seen.entry(order).or_default() += 1;
+    }
+    assert_eq!(seen.len(), 6 + 24, "{seen:?}");
+    assert!(seen.values().all(|&times| times >= 20), "{seen:?}");
+}
+
+/// Offsets past 255, of every block with bytes.
+#[test]
+fn blocks_behind_long_gaps() {
+    let mut random = Random::new(15);
+    let mut far = [0; 4];
+    for _ in 0..2000 {
+        let (_, sheet) = road(&mut random, SIZE);
+        let offsets = layout(&mut random, &sheet).offsets;
+        for (times, offset) in far.iter_mut().zip(offsets) {
+            *times += usize::from(offset > 255);
+        }
+    }
+    assert!(far.iter().all(|&times| times >= 20), "{far:?}");
 }
