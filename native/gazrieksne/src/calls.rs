@@ -74,6 +74,20 @@ pub fn plan(
     }
 }
 
+/// `gz_tidy`: the refusal; the answer is group, length of the copy.
+pub fn tidy(sheet: &[u8], output: &mut [u8], answer: &mut [u64; 2]) -> u64 {
+    // SAFETY: see the head of this file.
+    unsafe {
+        raw::gz_tidy(
+            sheet.as_ptr(),
+            sheet.len(),
+            output.as_mut_ptr(),
+            output.len(),
+            answer,
+        )
+    }
+}
+
 /// `gz_weigh`: the flag; the answer is the figure.
 pub fn weigh(best: u64, placed: u64, rest: u64, link: u64, answer: &mut [u64; 1]) -> u64 {
     // SAFETY: see the head of this file.

@@ -9,6 +9,9 @@ mod refusal;
 
 pub use refusal::{Group, Refusal};
 
+/// An output of so many bytes suffices for the tidy copy of any sheet.
+pub const LONGEST_COPY: usize = 11_438;
+
 /// The numbers of services, cabinets, streams and barred pairs of an accepted sheet.
 #[derive(Clone, Copy, Debug, PartialEq, Eq)]
 pub struct Counts {
@@ -142,6 +145,15 @@ pub fn plan(
     let number = calls::plan(sheet, output, costs, choices, &mut answer);
     let [group, cost, count] = answer;
     Refusal::of(number, group, count).map_or(Ok(Planned { cost, count }), Err)
+}
+
+/// Writes the tidy copy of a sheet to the first bytes of the output and gives its length. Bytes
+/// behind it stay as they are, and in a refusal all do.
+pub fn tidy(sheet: &[u8], output: &mut [u8]) -> Result<usize, Refusal> {
+    let mut answer = [0; 2];
+    let number = calls::tidy(sheet, output, &mut answer);
+    let [group, length] = answer;
+    Refusal::of(number, group, 0).map_or(Ok(length as usize), Err)
 }
 
 /// The figure and the flag of one split; a figure above 10^15 is 'none'.

@@ -44,6 +44,13 @@ unsafe extern "C" {
         choices_len: usize,
         answer: *mut [u64; 3],
     ) -> u64;
+    pub fn gz_tidy(
+        sheet: *const u8,
+        sheet_len: usize,
+        output: *mut u8,
+        output_len: usize,
+        answer: *mut [u64; 2],
+    ) -> u64;
     pub fn gz_weigh(best: u64, placed: u64, rest: u64, link: u64, answer: *mut [u64; 1]) -> u64;
     pub fn gz_bound(services: usize, cabinets: usize, answer: *mut [u64; 2]) -> u64;
 }

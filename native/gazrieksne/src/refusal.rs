@@ -49,7 +49,7 @@ impl Display for Refusal {
             7 => "a wrong parent",
             8 => "a wrong end of a stream",
             9 => "a link field of the root is not 0",
-            10 => "the output is too short",
+            10 => "the output is too short for a plan",
             11 => "a table is too short",
             12 => "no valid plan exists",
             13 => "the plan hasn't one place a service",
@@ -59,6 +59,7 @@ impl Display for Refusal {
             18 => "the block of barred pairs is not within the sheet, has too many pairs, or shares a byte",
             19 => "a barred pair names no service or no cabinet",
             20 => "a service is on a cabinet that it is barred from",
+            21 => "the output is too short for the sheet to be written",
             _ => "an unknown refusal",
         })
     }

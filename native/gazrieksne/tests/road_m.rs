@@ -119,6 +119,44 @@ fn plans_without_barred_pairs() {
     assert_eq!((planned, output), (Err(no_plan), [1, 2]));
 }
 
+/// M with pairs behind it after so many unused bytes, which the length word tells of.
+fn m_apart(pairs: &[[u16; 2]], gap: u8) -> Vec<u8> {
+    let mut sheet = m_barred(pairs);
+    sheet.splice(68..68, vec![7; gap.into()]);
+    sheet[12] += gap;
+    sheet[14] += gap;
+    sheet
+}
+
+#[test]
+fn tidy_copies() {
+    let copy = m_barred(&[[0, 1], [1, 0]]);
+    for pairs in [&[[0, 1], [1, 0]][..], &[[1, 0], [0, 1], [1, 0]]] {
+        let mut output = [9; gazrieksne::LONGEST_COPY];
+        let length = gazrieksne::tidy(&m_apart(pairs, 3), &mut output);
+        assert_eq!(length, Ok(78));
+        assert_eq!(
+            (&output[..78], &output[78..]),
+            (&copy[..], &[9; 11_360][..])
+        );
+    }
+    let mut output = [9; 69];
+    assert_eq!(gazrieksne::tidy(&m_apart(&[], 1), &mut output), Ok(68));
+    assert_eq!((&output[..68], output[68]), (&m()[..], 9));
+}
+
+#[test]
+fn tidy_copies_refused() {
+    let mut output = [9; 77];
+    let sheet = m_apart(&[[1, 0], [0, 1]], 5);
+    let refusal = gazrieksne::tidy(&sheet, &mut output).unwrap_err();
+    assert_eq!((refusal.number, refusal.group), (21, Group::Lender));
+    assert!(refusal.to_string().contains("too short"));
+    let refusal = gazrieksne::tidy(&sheet[1..], &mut []).unwrap_err();
+    assert_eq!((refusal.number, refusal.group), (2, Group::SheetWriter));
+    assert_eq!(output, [9; 77]);
+}
+
 #[test]
 fn figures() {
     assert_eq!(gazrieksne::weigh(10, 1, 2, 3), (6, true));
