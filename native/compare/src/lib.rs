@@ -1,6 +1,7 @@
 //! The proved planner beside the second one.
 #![forbid(unsafe_code)]
 
+mod expected;
 mod options;
 mod proved;
 
@@ -12,16 +13,11 @@ use second::random::case::{Origin, with_calls};
 use second::random::layout::layout;
 use second::random::road::{Kind, of_kind};
 use second::random::{Case, Random, Size, case};
-use second::{barred, tied};
-
-/// So many random cases, and so many large roads, must have among them some plans of which others
-/// cost as much.
-const CASES_WITH_TIES: usize = 1000;
-const LARGE_WITH_TIES: usize = 40;
+use second::{barred, copies, tied};
 
 /// Compares the bound for all numbers around the limits, then all cases: those written down for
-/// barred pairs and for ties, random ones, and large roads. The error is the first difference in
-/// full, or that nothing tied.
+/// barred pairs, for ties and for tidy copies, random ones, and large roads. The error is the first
+/// difference in full, or what enough random cases should have shown and did not.
 pub fn run(options: &Options) -> Result<Tally, String> {
     let mut tally = Tally::default();
     let mut random = Random::new(options.seed);
@@ -34,7 +30,7 @@ pub fn run(options: &Options) -> Result<Tally, String> {
         compare(&Proved, &case, &mut random, &mut tally)
             .map_err(|what| format!("{name}: {what}"))?;
     }
-    let before = tally.tied();
+    let before = tally.clone();
     for number in 0..options.cases + options.large {
         let case = match number < options.cases {
             true => case(&mut random, size),
@@ -43,17 +39,18 @@ pub fn run(options: &Options) -> Result<Tally, String> {
         compare(&Proved, &case, &mut random, &mut tally)
             .map_err(|what| format!("case {number} of seed {}: {what}", options.seed))?;
     }
-    let untied = options.cases >= CASES_WITH_TIES && tally.tied() == before;
-    if untied || options.large >= LARGE_WITH_TIES && tally.tied_large() == 0 {
-        return Err("no random road, or no large one, had two cheapest plans".to_string());
+    match expected::missing(options, &before, &tally) {
+        Some(missing) => Err(missing),
+        None => Ok(tally),
     }
-    Ok(tally)
 }
 
-/// The cases written down for barred pairs and for ties, by name.
+/// The cases written down for barred pairs, for ties and for tidy copies, by name.
 fn written_down() -> impl Iterator<Item = (&'static str, Case)> {
     let barred = barred::all().into_iter().map(|d| (d.name, d.case()));
-    barred.chain(tied::all().into_iter().map(|t| (t.name, t.case())))
+    let tied = tied::all().into_iter().map(|t| (t.name, t.case()));
+    let copies = copies::all().into_iter().map(|c| (c.name, c.case()));
+    barred.chain(tied).chain(copies)
 }
 
 /// A road with too many plans to try.

@@ -41,6 +41,10 @@ impl Subject for Proved {
         calls::plan(sheet, output, costs, choices, answer)
     }
 
+    fn tidy(&self, sheet: &[u8], output: &mut [u8], answer: &mut [u64; 2]) -> u64 {
+        calls::tidy(sheet, output, answer)
+    }
+
     fn weigh(&self, [best, placed, rest, link]: [u64; 4], answer: &mut [u64; 1]) -> u64 {
         calls::weigh(best, placed, rest, link, answer)
     }

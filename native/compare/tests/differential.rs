@@ -20,6 +20,9 @@ fn no_difference_and_every_refusal() {
     for refusal in (0..=12).chain([18, 19]) {
         assert!(tally.times("plan", refusal) > 0, "plan: {refusal}");
     }
+    for refusal in (0..=9).chain([18, 19, 21]) {
+        assert!(tally.times("tidy", refusal) > 0, "tidy: {refusal}");
+    }
     assert!(tally.tied() > 200, "{} plans tied", tally.tied());
     for found in [0, 1] {
         assert!(tally.times("barred", found) > 0, "barred: {found}");

@@ -1,19 +1,36 @@
 //! Compares the check.
 
+use crate::alike::Alike;
 use crate::guarded::{Guarded, same};
 use crate::{Subject, Tally};
 use second::group;
 use second::random::Random;
 
-/// The refusal, the group and the cost of a plan.
+/// The refusal, the group and the cost of a plan, for a sheet and for its tidy copy.
 pub fn check(
     subject: &dyn Subject,
-    sheet: &[u8],
+    alike: &Alike,
     plan: &[u16],
     random: &mut Random,
     tally: &mut Tally,
 ) -> Result<(), String> {
-    let (right, cost) = match second::check(sheet, plan) {
+    let right = second::check(alike.sheet, plan);
+    alike.each(|sheet| {
+        judge(subject, sheet, plan, right, random)?;
+        tally.answer("check", right.err().unwrap_or(0));
+        Ok(())
+    })
+}
+
+/// One call, which must give this cost or refusal.
+fn judge(
+    subject: &dyn Subject,
+    sheet: &[u8],
+    plan: &[u16],
+    right: Result<u64, u64>,
+    random: &mut Random,
+) -> Result<(), String> {
+    let (right, cost) = match right {
         Ok(cost) => (0, cost),
         Err(refusal) => (refusal, 0),
     };
@@ -25,7 +42,5 @@ pub fn check(
     same(&call, refusal, right)?;
     answer.expect(&format!("{call}: answer"), &[group(right), cost])?;
     sheet.expect_same(&format!("{call}: sheet"))?;
-    plan.expect_same(&format!("{call}: plan"))?;
-    tally.answer("check", right);
-    Ok(())
+    plan.expect_same(&format!("{call}: plan"))
 }

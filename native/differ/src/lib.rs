@@ -2,6 +2,7 @@
 //! place of what is lent.
 #![forbid(unsafe_code)]
 
+mod alike;
 mod checks;
 mod figures;
 mod guarded;
@@ -9,11 +10,13 @@ mod planner;
 mod reader;
 mod subject;
 mod tally;
+mod writer;
 
 pub use figures::compare_bounds;
 pub use subject::Subject;
 pub use tally::Tally;
 
+use alike::Alike;
 use second::hex::dump;
 use second::random::{Case, Random};
 
@@ -35,13 +38,17 @@ fn calls(
     random: &mut Random,
     tally: &mut Tally,
 ) -> Result<(), String> {
-    reader::read(subject, &case.sheet, random, tally)?;
-    reader::records(subject, &case.sheet, random, tally)?;
+    let right = second::read(&case.sheet);
+    let alike = Alike::new(&case.sheet);
+    reader::read(subject, &case.sheet, &right, random, tally)?;
+    reader::records(subject, &case.sheet, &right, random, tally)?;
+    writer::tidy(subject, &alike, random, tally)?;
+    writer::copy(subject, &alike, random, tally)?;
     for plan in &case.plans {
-        checks::check(subject, &case.sheet, plan, random, tally)?;
+        checks::check(subject, &alike, plan, random, tally)?;
     }
     for &lent in &case.lent {
-        planner::plan(subject, &case.sheet, lent, random, tally)?;
+        planner::plan(subject, &alike, lent, random, tally)?;
     }
     figures::weigh(subject, random, tally)?;
     figures::bound(subject, random, tally)

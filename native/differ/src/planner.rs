@@ -1,20 +1,41 @@
 //! Compares the planner.
 
+use crate::alike::Alike;
 use crate::guarded::{Guarded, same};
 use crate::{Subject, Tally};
 use second::Answer;
 use second::plan::{MOST_PLANS, plans};
 use second::random::{Lent, Random};
 
-/// The refusal, the group, the cost and the count; the plan written; and all that was lent.
+/// The refusal, the group, the cost and the count; the plan written; and all that was lent: for a
+/// sheet and for its tidy copy.
 pub fn plan(
     subject: &dyn Subject,
-    sheet: &[u8],
+    alike: &Alike,
     lent: Lent,
     random: &mut Random,
     tally: &mut Tally,
 ) -> Result<(), String> {
-    let right = right(sheet, lent);
+    let right = right(alike.sheet, lent);
+    alike.each(|sheet| {
+        solve(subject, sheet, lent, &right, random)?;
+        tally.answer("plan", right.refusal);
+        Ok(())
+    })?;
+    if right.ties > 0 {
+        tally.tie(is_large(alike.sheet));
+    }
+    Ok(())
+}
+
+/// One call, which must give this answer.
+fn solve(
+    subject: &dyn Subject,
+    sheet: &[u8],
+    lent: Lent,
+    right: &Answer,
+    random: &mut Random,
+) -> Result<(), String> {
     let call = format!("plan with {lent:?}");
     let within = |what: &str| format!("{call}: {what}");
     let lent_sheet = Guarded::holding(random, sheet);
@@ -34,15 +55,10 @@ pub fn plan(
     answer.expect(&within("answer"), &values)?;
     lent_sheet.expect_same(&within("sheet"))?;
     let entries = used(sheet, refusal);
-    let plan = right.plan.unwrap_or_default();
-    output.expect(&within(&written(sheet, &output, &plan)), &plan)?;
+    let plan = right.plan.as_deref().unwrap_or_default();
+    output.expect(&within(&written(sheet, &output, plan)), plan)?;
     costs.expect(&within("cost table"), &vec![0; entries])?;
-    choices.expect(&within("choice table"), &vec![0; entries])?;
-    tally.answer("plan", refusal);
-    if right.ties > 0 {
-        tally.tie(is_large(sheet));
-    }
-    Ok(())
+    choices.expect(&within("choice table"), &vec![0; entries])
 }
 
 /// The output's name, with what was written where the first plan should be, and what the check says

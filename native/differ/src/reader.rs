@@ -5,16 +5,17 @@ use crate::{Subject, Tally};
 use second::random::Random;
 use second::{Cabinet, Pair, Sheet, Stream, group};
 
-/// The refusal, the group and the four counts.
+/// The refusal, the group and the four counts, by what is right to read.
 pub fn read(
     subject: &dyn Subject,
     sheet: &[u8],
+    right: &Result<Sheet, u64>,
     random: &mut Random,
     tally: &mut Tally,
 ) -> Result<(), String> {
-    let (right, counts) = match second::read(sheet) {
-        Ok(records) => (0, counts(&records)),
-        Err(refusal) => (refusal, [group(refusal), 0, 0, 0, 0]),
+    let (right, counts) = match right {
+        Ok(records) => (0, counts(records)),
+        Err(refusal) => (*refusal, [group(*refusal), 0, 0, 0, 0]),
     };
     let sheet = Guarded::holding(random, sheet);
     let mut answer = Guarded::dirty(random, 5);
@@ -41,10 +42,11 @@ fn counts(sheet: &Sheet) -> [u64; 5] {
 pub fn records(
     subject: &dyn Subject,
     sheet: &[u8],
+    right: &Result<Sheet, u64>,
     random: &mut Random,
     tally: &mut Tally,
 ) -> Result<(), String> {
-    let right = second::read(sheet).unwrap_or_default();
+    let right = right.clone().unwrap_or_default();
     let services: Vec<[u16; 1]> = right.services.iter().map(|&d| [d]).collect();
     let cabinets: Vec<[u16; 7]> = right.cabinets.iter().map(Cabinet::words).collect();
     let streams: Vec<[u16; 3]> = right.streams.iter().map(Stream::words).collect();

@@ -21,6 +21,8 @@ pub trait Subject {
         choices: &mut [u16],
         answer: &mut [u64; 3],
     ) -> u64;
+    /// Answer: group, length of the copy.
+    fn tidy(&self, sheet: &[u8], output: &mut [u8], answer: &mut [u64; 2]) -> u64;
     /// Answer: the figure.
     fn weigh(&self, figures: [u64; 4], answer: &mut [u64; 1]) -> u64;
     /// Answer: group, bound.

@@ -1,17 +1,20 @@
-//! Counts of cases by kind, of calls by answer, and of plans that were not the only cheapest.
+//! Counts of cases by kind, of calls by answer, of plans that were not the only cheapest, and of
+//! the forms of sheets that were copied.
 
+use second::form::{Form, forms};
 use second::random::Case;
 use second::random::case::Origin;
 use std::collections::BTreeMap;
 use std::fmt::{Display, Formatter, Result};
 
-#[derive(Default)]
+#[derive(Clone, Default)]
 pub struct Tally {
     cases: usize,
     kinds: BTreeMap<String, usize>,
     answers: BTreeMap<&'static str, BTreeMap<u64, usize>>,
     tied: usize,
     tied_large: usize,
+    forms: BTreeMap<Form, usize>,
 }
 
 impl Tally {
@@ -48,6 +51,18 @@ impl Tally {
         self.tied_large
     }
 
+    /// Notes the form of a sheet whose tidy copy was compared.
+    pub fn forms(&mut self, sheet: &[u8]) {
+        for form in forms(sheet) {
+            *self.forms.entry(form).or_default() += 1;
+        }
+    }
+
+    /// How many sheets of this form were copied.
+    pub fn copied(&self, form: Form) -> usize {
+        self.forms.get(&form).copied().unwrap_or(0)
+    }
+
     pub fn cases(&self) -> usize {
         self.cases
     }
@@ -73,6 +88,11 @@ impl Display for Tally {
         }
         writeln!(f, "plans of which others cost as much:")?;
         writeln!(f, "{:9} on roads whose every plan was tried", self.tied)?;
-        writeln!(f, "{:9} on large roads, or more", self.tied_large)
+        writeln!(f, "{:9} on large roads, or more", self.tied_large)?;
+        writeln!(f, "sheets copied, by form:")?;
+        for (form, times) in &self.forms {
+            writeln!(f, "{times:9} {form:?}")?;
+        }
+        Ok(())
     }
 }

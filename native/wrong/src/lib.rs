@@ -4,6 +4,7 @@
 
 mod bars;
 mod check;
+mod copy;
 mod fault;
 mod figures;
 mod fourth;
@@ -14,13 +15,14 @@ mod reader;
 mod rows;
 mod subject;
 mod ties;
+mod writer;
 
 pub use fault::Fault;
 pub use subject::Faulty;
 
 use differ::{Tally, compare, compare_bounds};
 use second::random::{Random, Size, case};
-use second::{barred, tied};
+use second::{barred, copies, tied};
 
 /// The sizes of the random roads.
 const SIZE: Size = Size {
@@ -28,9 +30,9 @@ const SIZE: Size = Size {
     cabinets: 6,
 };
 
-/// Compares up to so many random cases, then those written down for barred pairs and for ties, then
-/// the bound for all numbers around the limits. Gives the first case that shows a difference, and
-/// the first line of what it shows.
+/// Compares up to so many random cases, then those written down for barred pairs, for ties and for
+/// tidy copies, then the bound for all numbers around the limits. Gives the first case that shows a
+/// difference, and the first line of what it shows.
 pub fn first_difference(fault: Option<Fault>, cases: usize, seed: u64) -> Option<(String, String)> {
     let subject = Faulty(fault);
     let mut random = Random::new(seed);
@@ -43,7 +45,8 @@ pub fn first_difference(fault: Option<Fault>, cases: usize, seed: u64) -> Option
     }
     let barred = barred::all().into_iter().map(|d| (d.name, d.case()));
     let tied = tied::all().into_iter().map(|t| (t.name, t.case()));
-    for (name, case) in barred.chain(tied) {
+    let copies = copies::all().into_iter().map(|c| (c.name, c.case()));
+    for (name, case) in barred.chain(tied).chain(copies) {
         if let Err(what) = compare(&subject, &case, &mut random, &mut tally) {
             return Some((name.to_string(), first_line(&what)));
         }

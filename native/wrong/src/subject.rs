@@ -125,6 +125,14 @@ impl Subject for Faulty {
         refusal
     }
 
+    fn tidy(&self, sheet: &[u8], output: &mut [u8], answer: &mut [u64; 2]) -> u64 {
+        let (refusal, values) = self.tidy_answer(sheet, output);
+        if refusal == 0 || !self.has(Fault::TidyAnswerKept) {
+            *answer = values;
+        }
+        refusal
+    }
+
     fn weigh(&self, figures: [u64; 4], answer: &mut [u64; 1]) -> u64 {
         let (figure, flag) = self.weighed(figures);
         *answer = [figure];
