@@ -1,5 +1,6 @@
-//! What the program must print for a sheet.
+//! What the planning program must print for a sheet.
 
+use crate::run::Ran;
 use second::{Answer, plan};
 
 /// The most bytes that the program takes.
@@ -18,6 +19,16 @@ pub fn answer(sheet: &[u8]) -> Answer {
         };
     }
     plan(sheet, OUTPUT, ENTRIES, ENTRIES)
+}
+
+/// The refusal of the sheet, or 0 for a plan, if this is what the run printed. An exit status or a
+/// signal may mark the end alike.
+pub fn judge(sheet: &[u8], ran: &Ran) -> Result<u64, String> {
+    let answer = answer(sheet);
+    match str::from_utf8(&ran.output) {
+        Ok(printed) => agrees(&answer, printed).map(|()| answer.refusal),
+        Err(_) => Err("it printed something that is no text".to_string()),
+    }
 }
 
 /// Whether the printed text gives this answer.

@@ -1,4 +1,5 @@
-//! `program PATH [--cases N] [--seed N]`: compares the program at PATH with the second planner.
+//! `program PLAN [TIDY] [--cases N] [--seed N]`: compares the planning program at PLAN with the
+//! second planner, and the program at TIDY, which writes tidy copies, with the second writer.
 #![forbid(unsafe_code)]
 
 use std::path::PathBuf;
@@ -6,20 +7,26 @@ use std::process::ExitCode;
 
 fn main() -> ExitCode {
     let mut arguments = std::env::args().skip(1);
-    let (mut path, mut cases, mut seed) = (None, 500, 1);
+    let (mut paths, mut cases, mut seed) = (vec![], 500, 1);
     while let Some(argument) = arguments.next() {
         let mut number = || arguments.next().and_then(|text| text.parse::<u64>().ok());
         match argument.as_str() {
             "--cases" => cases = number().unwrap_or(cases),
             "--seed" => seed = number().unwrap_or(seed),
-            _ => path = Some(PathBuf::from(argument)),
+            _ => paths.push(PathBuf::from(argument)),
         }
     }
-    let Some(path) = path else {
-        eprintln!("usage: program PATH [--cases N] [--seed N]");
-        return ExitCode::from(2);
+    let (plan, tidy) = match &paths[..] {
+        [plan] => (plan, None),
+        [plan, tidy] => (plan, Some(tidy)),
+        _ => {
+            eprintln!("usage: program PLAN [TIDY] [--cases N] [--seed N]");
+            return ExitCode::from(2);
+        }
     };
-    match program::report(&path, cases as usize, seed) {
+    let planned = program::report(plan, cases as usize, seed);
+    let copied = tidy.is_none_or(|tidy| program::report_tidy(tidy, cases as usize, seed));
+    match planned && copied {
         true => ExitCode::SUCCESS,
         false => ExitCode::FAILURE,
     }

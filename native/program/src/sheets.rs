@@ -1,10 +1,10 @@
-//! The sheets that the program is fed.
+//! The sheets that the programs are fed.
 
 use second::build::tight;
 use second::limits::{COUNT, NO_PARENT, PAIR};
 use second::measured::{m, m_barred, roads};
 use second::random::{Random, Size, case};
-use second::{Cabinet, Layout, Sheet, Stream, barred, build, tied};
+use second::{Cabinet, Layout, Sheet, Stream, barred, build, copies, tied};
 
 /// The sizes of the random roads.
 const SIZE: Size = Size {
@@ -12,8 +12,8 @@ const SIZE: Size = Size {
     cabinets: 6,
 };
 
-/// Measured roads, sheets at the program's own limits, sheets with barred pairs and roads that tie
-/// which are written down, and so many random cases.
+/// Measured roads, sheets at the planning program's own limits, sheets with barred pairs, roads that
+/// tie and sheets in odd forms which are written down, and so many random cases.
 pub fn all(cases: usize, seed: u64) -> Vec<(String, Vec<u8>)> {
     let mut sheets: Vec<(String, Vec<u8>)> = vec![];
     for road in roads() {
@@ -27,6 +27,9 @@ pub fn all(cases: usize, seed: u64) -> Vec<(String, Vec<u8>)> {
     }
     for road in tied::all() {
         sheets.push((format!("tied: {}", road.name), tight(&road.sheet)));
+    }
+    for copied in copies::all() {
+        sheets.push((format!("copied: {}", copied.name), copied.sheet));
     }
     let mut random = Random::new(seed);
     for number in 0..cases {
