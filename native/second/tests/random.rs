@@ -153,6 +153,22 @@ fn sheets_in_every_form() {
     }
 }
 
+/// Nothing but the pairs has to be put in order.
+#[test]
+fn sheets_with_untidy_pairs_alone() {
+    let mut random = Random::new(16);
+    let mut times = 0;
+    for _ in 0..1000 {
+        let (_, sheet) = road(&mut random, SIZE);
+        let layout = layout(&mut random, &sheet);
+        let pairs = [Form::RepeatedPairs, Form::FallingPairs, Form::NoStream];
+        let forms = forms(&build(&sheet, &layout));
+        let untidy = !forms.contains(&Form::Tidy);
+        times += usize::from(untidy && forms.iter().all(|form| pairs.contains(form)));
+    }
+    assert!(times >= 20, "{times} times");
+}
+
 /// Six orders of three blocks and 24 of four, each often.
 #[test]
 fn blocks_in_every_order() {

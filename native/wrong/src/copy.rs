@@ -13,7 +13,7 @@ impl Faulty {
             sheet.services.clone(),
             sheet.cabinets.iter().flat_map(Cabinet::words).collect(),
             streams.iter().flat_map(Stream::words).collect(),
-            self.fourth_copied(&sheet.barred),
+            self.fourth_copied(bytes, sheet),
         ];
         let mut copy = vec![0; 16];
         let mut offsets = [0; 4];
@@ -92,13 +92,24 @@ impl Faulty {
     }
 
     /// The barred block: a count and pairs, or nothing.
-    fn fourth_copied(&self, pairs: &[Pair]) -> Vec<u16> {
-        let pairs = self.pairs_copied(pairs);
+    fn fourth_copied(&self, bytes: &[u8], sheet: &Sheet) -> Vec<u16> {
+        let eighth = self.fourth(bytes);
+        let [r, s, q] = [
+            sheet.services.len(),
+            sheet.cabinets.len(),
+            sheet.streams.len(),
+        ];
+        let in_place = eighth == 16 + 2 * r + 14 * s + 6 * q;
+        let pairs = match in_place && self.has(Fault::TidyPairsInPlace) {
+            true => sheet.barred.iter().map(Pair::words).collect(),
+            false => self.pairs_copied(&sheet.barred),
+        };
         let count = match self.has(Fault::TidyCountIn8Bits) {
             true => pairs.len() % 256,
             false => pairs.len(),
         };
-        match pairs.is_empty() && !self.has(Fault::TidyEmptyPairs) {
+        let kept = self.has(Fault::TidyEmptyPairs) || eighth != 0 && self.has(Fault::TidyNoneKept);
+        match pairs.is_empty() && !kept {
             true => vec![],
             false => [&[count as u16][..], &pairs.concat()].concat(),
         }
