@@ -88,7 +88,7 @@ mod tests {
         let missed = |options: &Options| missing(options, &Tally::default(), &after);
         assert!(missed(&options).is_some_and(|what| what.contains("large")));
         options.large = 39;
-        assert!(missed(&options).is_some_and(|what| what.contains("random")));
+        assert!(missed(&options).is_some_and(|what| what.contains("random road")));
         options.cases = 999;
         assert_eq!(missed(&options), None);
     }

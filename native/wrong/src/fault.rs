@@ -260,6 +260,7 @@ faults! {
     TidyRoomIn8Bits "tidy: the output's length is compared in 8 bits"
     TidyShortFirst "tidy: 21 is given before the reader's refusals"
     TidyShortBefore18 "tidy: 21 is given before 18 and 19"
+    TidyNumber "tidy: an output that is too short is 10"
     TidyGroup "tidy: 21 belongs to the sheet writer"
     TidyLengthIn21 "tidy: 21 comes with the length that was wanted"
     TidySheetAnswered "tidy: the length of the sheet is answered"

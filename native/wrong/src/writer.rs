@@ -21,7 +21,7 @@ impl Faulty {
             if self.has(Fault::TidyPartWritten) {
                 write(&copy, output);
             }
-            return (21, self.short_values(copy.len()));
+            return self.short_answer(copy.len());
         }
         if self.has(Fault::TidyRestCleared) {
             output.fill(0);
@@ -61,12 +61,13 @@ impl Faulty {
         }
     }
 
-    /// Group and length with 21.
-    fn short_values(&self, needed: usize) -> [u64; 2] {
+    /// The refusal of an output that is too short, and group and length.
+    fn short_answer(&self, needed: usize) -> (u64, [u64; 2]) {
         match self.0 {
-            Some(Fault::TidyGroup) => [1, 0],
-            Some(Fault::TidyLengthIn21) => [2, needed as u64],
-            _ => [2, 0],
+            Some(Fault::TidyNumber) => (10, [2, 0]),
+            Some(Fault::TidyGroup) => (21, [1, 0]),
+            Some(Fault::TidyLengthIn21) => (21, [2, needed as u64]),
+            _ => (21, [2, 0]),
         }
     }
 }
