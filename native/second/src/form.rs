@@ -1,4 +1,4 @@
-//! What is told apart about the form of an accepted sheet, which its tidy copy leaves behind.
+//! What is told apart about the form of an accepted sheet.
 
 use crate::build::sizes;
 use crate::limits::{CABINET, HEADER, SERVICE};

@@ -44,12 +44,11 @@ fn barred_block(sheet: &Sheet) -> Vec<u16> {
 /// it has no word.
 fn header(sheet: &Sheet, blocks: &[Vec<u16>; 4]) -> [u16; 8] {
     let mut at = HEADER;
-    let mut place = |block: &Vec<u16>| {
+    let [services, cabinets, streams, barred] = blocks.each_ref().map(|block| {
         let start = at;
         at += 2 * block.len();
         start
-    };
-    let [services, cabinets, streams, barred] = blocks.each_ref().map(&mut place);
+    });
     let words = [
         sheet.services.len(),
         sheet.cabinets.len(),

@@ -263,6 +263,7 @@ faults! {
     TidyNumber "tidy: an output that is too short is 10"
     TidyGroup "tidy: 21 belongs to the sheet writer"
     TidyLengthIn21 "tidy: 21 comes with the length that was wanted"
+    TidyLengthInReader "tidy: a refused sheet comes with its length"
     TidySheetAnswered "tidy: the length of the sheet is answered"
     TidyAnswerKept "tidy: the answer stays unwritten in a refusal"
     // The weighing and the bound.

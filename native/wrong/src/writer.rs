@@ -8,33 +8,31 @@ impl Faulty {
     pub fn tidy_answer(&self, bytes: &[u8], output: &mut [u8]) -> (u64, [u64; 2]) {
         let sheet = match self.records(bytes) {
             Ok(sheet) => sheet,
-            Err(refusal) => {
-                if self.has(Fault::TidyTouchedInReader) {
-                    output.fill(0);
-                }
-                let refusal = self.output_first(bytes, output.len(), refusal);
-                return (refusal, [group(refusal), 0]);
-            }
+            Err(refusal) => return self.unread(bytes, output, refusal),
         };
         let copy = self.copy(bytes, &sheet);
         if self.too_short(bytes.len(), copy.len(), output.len()) {
-            if self.has(Fault::TidyPartWritten) {
-                write(&copy, output);
-            }
-            return self.short_answer(copy.len());
+            return self.cut(&copy, output);
         }
-        if self.has(Fault::TidyRestCleared) {
-            output.fill(0);
-        }
-        if let (Some(next), true) = (output.get_mut(copy.len()), self.has(Fault::TidyOnePast)) {
-            *next = 0;
-        }
-        write(&copy, output);
+        self.write(&copy, output);
         let length = match self.has(Fault::TidySheetAnswered) {
             true => bytes.len(),
             false => copy.len(),
         };
         (0, [0, length as u64])
+    }
+
+    /// The answer for a sheet that the reader refuses.
+    fn unread(&self, bytes: &[u8], output: &mut [u8], refusal: u64) -> (u64, [u64; 2]) {
+        if self.has(Fault::TidyTouchedInReader) {
+            output.fill(0);
+        }
+        let length = match self.has(Fault::TidyLengthInReader) {
+            true => bytes.len(),
+            false => 0,
+        };
+        let refusal = self.output_first(bytes, output.len(), refusal);
+        (refusal, [group(refusal), length as u64])
     }
 
     /// The reader's refusal, unless 21 comes before it.
@@ -61,20 +59,28 @@ impl Faulty {
         }
     }
 
-    /// The refusal of an output that is too short, and group and length.
-    fn short_answer(&self, needed: usize) -> (u64, [u64; 2]) {
+    /// The answer for an output that is too short.
+    fn cut(&self, copy: &[u8], output: &mut [u8]) -> (u64, [u64; 2]) {
+        if self.has(Fault::TidyPartWritten) {
+            self.write(copy, output);
+        }
         match self.0 {
             Some(Fault::TidyNumber) => (10, [2, 0]),
             Some(Fault::TidyGroup) => (21, [1, 0]),
-            Some(Fault::TidyLengthIn21) => (21, [2, needed as u64]),
+            Some(Fault::TidyLengthIn21) => (21, [2, copy.len() as u64]),
             _ => (21, [2, 0]),
         }
     }
-}
 
-/// Writes the copy as far as there is room.
-fn write(copy: &[u8], output: &mut [u8]) {
-    for (place, byte) in output.iter_mut().zip(copy) {
-        *place = *byte;
+    /// Writes the copy as far as there is room.
+    fn write(&self, copy: &[u8], output: &mut [u8]) {
+        let cleared = match self.0 {
+            Some(Fault::TidyRestCleared) => output.len(),
+            Some(Fault::TidyOnePast) => copy.len() + 1,
+            _ => 0,
+        };
+        output.iter_mut().take(cleared).for_each(|place| *place = 0);
+        let places = output.iter_mut().zip(copy);
+        places.for_each(|(place, &byte)| *place = byte);
     }
 }
