@@ -6,7 +6,6 @@
 #include "damage_fourth.h"
 #include "input.h"
 #include "layout.h"
-#include "sheets.h"
 
 /* Any byte at which a word can start; every other time in the header. */
 static size_t draw_place(struct random *random, size_t length)

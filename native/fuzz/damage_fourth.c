@@ -5,7 +5,6 @@
 
 #include "input.h"
 #include "layout.h"
-#include "sheets.h"
 
 enum { MOST_PAIRS = 2000, LONGEST = 65535, ROOT_LINKS = 3, LINK_BYTES = 8 };
 

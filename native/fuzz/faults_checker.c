@@ -2,7 +2,6 @@
 #include "faults.h"
 #include "input.h"
 #include "layout.h"
-#include "sheets.h"
 
 static void check_number(struct check *call)
 {

@@ -4,7 +4,6 @@
 #include "faults.h"
 #include "input.h"
 #include "layout.h"
-#include "sheets.h"
 
 enum { MOST_PAIRS = 2000, LARGEST_WORD = 65535, LINK_FIELDS = 3 };
 

@@ -5,7 +5,6 @@
 #include "input.h"
 #include "layout.h"
 #include "lent.h"
-#include "sheets.h"
 
 static void plan_tables_first(struct plan *call)
 {

@@ -4,7 +4,6 @@
 #include "faults.h"
 #include "input.h"
 #include "layout.h"
-#include "sheets.h"
 
 static struct sheet ignore_length(struct sheet sheet)
 {

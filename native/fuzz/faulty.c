@@ -10,7 +10,6 @@
 #include "input.h"
 #include "layout.h"
 #include "lent.h"
-#include "sheets.h"
 
 enum { NO_SUCH_FAULT = 3 };
 

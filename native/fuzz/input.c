@@ -24,6 +24,12 @@ uint16_t word_at(const uint8_t *bytes, size_t at)
     return (uint16_t)(bytes[at] + 256 * bytes[at + 1]);
 }
 
+void put_word(uint8_t *bytes, size_t at, unsigned word)
+{
+    bytes[at] = (uint8_t)(word % 256);
+    bytes[at + 1] = (uint8_t)(word / 256 % 256);
+}
+
 size_t input_length(const struct input *input, int choice, size_t needed)
 {
     uint8_t byte = input->choice[choice];

@@ -29,6 +29,9 @@ void input_take_apart(struct input *input, const uint8_t *data, size_t size);
 /* The word that starts at this byte, low byte first. */
 uint16_t word_at(const uint8_t *bytes, size_t at);
 
+/* Puts a word at this byte, low byte first. */
+void put_word(uint8_t *bytes, size_t at, unsigned word);
+
 /* The length that one of the first four choices gives, where `needed` would be right. */
 size_t input_length(const struct input *input, int choice, size_t needed);
 

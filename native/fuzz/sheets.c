@@ -3,6 +3,7 @@
 
 #include <string.h>
 
+#include "input.h"
 #include "layout.h"
 
 enum { MOST_AMOUNT = 10000, MOST_PAIRS = 2000, NO_PARENT = 65535 };
@@ -24,12 +25,6 @@ struct road {
     struct some services; /* those that are barred from a cabinet */
     struct some cabinets; /* those that a service is barred from */
 };
-
-void put_word(uint8_t *bytes, size_t at, unsigned word)
-{
-    bytes[at] = (uint8_t)(word % 256);
-    bytes[at + 1] = (uint8_t)(word / 256 % 256);
-}
 
 /* Mostly few services and cabinets: time grows with 3^r and with s. */
 static void draw_counts(struct random *random, struct road *road)

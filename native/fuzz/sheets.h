@@ -9,9 +9,6 @@
 
 enum { MOST_ROAD_SHEET = 12000 };
 
-/* Puts a word at this byte, low byte first. */
-void put_word(uint8_t *bytes, size_t at, unsigned word);
-
 /* Writes a sheet of at most MOST_ROAD_SHEET bytes and gives its length. */
 size_t draw_sheet(struct random *random, uint8_t *bytes);
 
