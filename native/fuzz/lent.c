@@ -16,6 +16,7 @@ static struct arena arenas[PIECES] = {
     [OUTPUT] = {.name = "output", .most = MOST_PLACES * sizeof(uint16_t)},
     [COSTS] = {.name = "costs", .most = MOST_BYTES},
     [CHOICE_TABLE] = {.name = "choices", .most = MOST_LENT * sizeof(uint16_t)},
+    [COPY] = {.name = "output of gz_tidy", .most = MOST_COPY + MOST_LENGTH_ADDED},
     [RESULT] = {.name = "counts, answer or record", .most = MOST_RESULT * sizeof(uint64_t)},
 };
 

@@ -10,14 +10,17 @@
 enum {
     MOST_SERVICES = 10,
     MOST_CABINETS = 200,
+    MOST_STREAMS = 100,
     MOST_ENTRIES = MOST_CABINETS << MOST_SERVICES,
     MOST_PLACES = MOST_SERVICES + MOST_LENGTH_ADDED,
     MOST_SHEET = 80000,
+    MOST_COPY = 16 + 2 * MOST_SERVICES + 14 * MOST_CABINETS + 6 * MOST_STREAMS + 2
+                + 4 * MOST_SERVICES * MOST_CABINETS,
     MOST_RESULT = 7
 };
 
 /* The pieces, by the bit of an input's places that says where each lies. */
-enum piece { SHEET, PLAN, OUTPUT, COSTS, CHOICE_TABLE, RESULT, PIECES };
+enum piece { SHEET, PLAN, OUTPUT, COSTS, CHOICE_TABLE, COPY, RESULT, PIECES };
 
 /* Each input is run twice: every piece at its other place, and with other dirt. */
 struct run {
@@ -38,10 +41,10 @@ const uint16_t *lend_plan(const struct run *run, const uint16_t *plan, size_t pl
 /* The places of a result, each with garbage in it. */
 uint64_t *lend_result(const struct run *run, size_t places);
 
-/* Output or a table, full of the run's dirt. */
+/* An output or a table, full of the run's dirt. */
 void *lend_dirty(const struct run *run, enum piece piece, size_t bytes);
 
-/* True if these bytes of output or a table, from `used` on, still hold the run's dirt. */
+/* True if these bytes of an output or a table, from `used` on, still hold the run's dirt. */
 int is_dirty(const struct run *run, const void *memory, size_t used, size_t bytes);
 
 /* True if the first bytes of a table are 0. */

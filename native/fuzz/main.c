@@ -56,7 +56,7 @@ static void draw_choices(struct random *random, uint8_t choice[CHOICES])
 
     for (i = 0; i < CHOICES; i++)
         choice[i] = (uint8_t)random_next(random);
-    for (i = OUTPUT_LENGTH; i <= PLAN_LENGTH; i++)
+    for (i = OUTPUT_LENGTH; i <= COPY_LENGTH; i++)
         if (!random_once_in(random, 4))
             choice[i] = 0;
     choice[TAIL] = (uint8_t)random_below(random, MOST_WORDS + 1);
@@ -105,12 +105,14 @@ static void run_inputs(uint64_t inputs, uint64_t seed)
     }
 }
 
-/* True if the header lets the call give this number: whoever lends memory and the road cause
- * refusals of the planner only, whoever wrote the plan of the check only. */
+/* True if the header lets the call give this number: whoever lends memory causes refusals of the
+ * planner and of the tidy copy, the road of the planner only, whoever wrote the plan of the check
+ * only. */
 static int may_give(int call, uint64_t number)
 {
     switch (group_of(number)) {
     case LENDER:
+        return call == (number == 21 ? TIDY : FIND);
     case ROAD:
         return call == FIND;
     case PLAN_WRITER:
@@ -145,7 +147,7 @@ static int tell(void)
     uint64_t number;
 
     printf("%" PRIu64 " inputs, %" PRIu64 " accepted\n", tally.inputs, tally.met[READ][0]);
-    printf("answer  %10s %10s %10s\n", "gz_read", "gz_check", "gz_plan");
+    printf("answer  %10s %10s %10s %10s\n", "gz_read", "gz_check", "gz_plan", "gz_tidy");
     for (number = 0; number <= LAST_REFUSAL; number++)
         if (is_given(number))
             missing += tell_number(number);

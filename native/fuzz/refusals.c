@@ -25,7 +25,7 @@ static const struct refusal {
                        "the length, or it has more than 2,000 pairs, or it shares a byte"},
     {19, SHEET_WRITER, "19  the service of a barred pair is not below r, or its cabinet not below "
                        "s"},
-    {10, LENDER, "10  the output is shorter than r places"},
+    {10, LENDER, "10  the planner's output is shorter than r places"},
     {11, LENDER, "11  a table is shorter than s * 2^r entries"},
     {12, ROAD, "12  no valid plan exists"},
     {13, PLAN_WRITER, "13  it hasn't exactly r places"},
@@ -33,6 +33,7 @@ static const struct refusal {
     {20, PLAN_WRITER, "20  a service is on a cabinet that it is barred from"},
     {15, PLAN_WRITER, "15  a cabinet is overfull"},
     {16, PLAN_WRITER, "16  a direction of a link is overfull"},
+    {21, LENDER, "21  the output is shorter than the sheet that is to be written there"},
     {0, NOBODY, "group 0: no refusal"},
 };
 

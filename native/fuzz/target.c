@@ -8,6 +8,7 @@
 #include "planner.h"
 #include "require.h"
 #include "rivals.h"
+#include "tidy.h"
 
 struct tally tally;
 
@@ -15,7 +16,8 @@ struct outcome {
     struct reading reading;
     struct checking checking;
     struct planning planning;
-    size_t ties; /* other plans met that cost as much as the one written */
+    uint64_t tidying; /* the number that gz_tidy returned */
+    size_t ties;      /* other plans met that cost as much as the one written */
 };
 
 /* Checks the plan that the input draws, of whatever length it says. */
@@ -36,12 +38,16 @@ static void bound_header(const struct run *run)
         bound_splits(run, word_at(run->input->sheet, 0), word_at(run->input->sheet, 2));
 }
 
-static struct outcome call_all(const struct run *run)
+/* Writes the copy too, if there is one. */
+static struct outcome call_all(const struct run *run, struct copy *copy)
 {
     struct outcome outcome;
 
     outcome.reading = read_sheet(run);
     read_records(run, &outcome.reading);
+    if (outcome.reading.number == 0)
+        copy_tidy(copy, run->input->sheet);
+    outcome.tidying = tidy_sheet(run, &outcome.reading, copy);
     outcome.checking = check_drawn(run, &outcome.reading);
     outcome.planning = find_plan(run, &outcome.reading);
     bound_header(run);
@@ -49,19 +55,53 @@ static struct outcome call_all(const struct run *run)
     return outcome;
 }
 
+static int same_check(const struct checking *one, const struct checking *other)
+{
+    return one->number == other->number && one->answer[1] == other->answer[1];
+}
+
+static int same_plan(const struct planning *one, const struct planning *other)
+{
+    return one->number == other->number
+           && memcmp(one->answer, other->answer, sizeof one->answer) == 0
+           && memcmp(one->plan, other->plan, sizeof one->plan) == 0;
+}
+
 static void require_same(const struct outcome *one, const struct outcome *other)
 {
-    const struct planning *plan = &one->planning;
-    const struct planning *again = &other->planning;
-
     require(one->reading.number == other->reading.number
-                && one->checking.number == other->checking.number
-                && one->checking.answer[1] == other->checking.answer[1],
+                && same_check(&one->checking, &other->checking),
             "It keeps no state");
-    require(plan->number == again->number
-                && memcmp(plan->answer, again->answer, sizeof plan->answer) == 0
-                && memcmp(plan->plan, again->plan, sizeof plan->plan) == 0,
+    require(same_plan(&one->planning, &other->planning),
             "What the tables hold before is of no matter");
+}
+
+/* The copy as the sheet of an input that is the same otherwise. */
+static void require_as_sheet(const struct run *run, const struct outcome *outcome,
+                             const struct copy *copy)
+{
+    struct input input = *run->input;
+    struct run copied = *run;
+    struct reading reading;
+    struct checking checking;
+    struct planning planning;
+
+    if (outcome->tidying != 0)
+        return;
+    input.sheet = copy->bytes;
+    input.sheet_len = copy->length;
+    copied.input = &input;
+    reading = read_sheet(&copied);
+    require(reading.number == 0, "The copy is accepted");
+    require(memcmp(reading.counts, outcome->reading.counts, 4 * sizeof *reading.counts) == 0,
+            "each block's records in their order (another r, s or q)");
+    tidy_sheet(&copied, &reading, copy); /* and its own copy is no other */
+    checking = check_drawn(&copied, &reading);
+    require(same_check(&checking, &outcome->checking),
+            "gz_plan and gz_check answer for it as they do for the sheet (gz_check)");
+    planning = find_plan(&copied, &reading);
+    require(same_plan(&planning, &outcome->planning),
+            "gz_plan and gz_check answer for it as they do for the sheet (gz_plan)");
 }
 
 static void require_written(const struct run *run, const struct outcome *outcome)
@@ -104,11 +144,13 @@ static void count(const struct outcome *outcome)
     tally.met[READ][outcome->reading.number]++;
     tally.met[CHECK][outcome->checking.number]++;
     tally.met[FIND][outcome->planning.number]++;
+    tally.met[TIDY][outcome->tidying]++;
     tally.tied += outcome->ties > 0;
 }
 
 int LLVMFuzzerTestOneInput(const uint8_t *data, size_t size)
 {
+    static struct copy copy;
     struct input input;
     struct run first;
     struct run second;
@@ -120,9 +162,10 @@ int LLVMFuzzerTestOneInput(const uint8_t *data, size_t size)
         return 0;
     first = run_of(&input, 0);
     second = run_of(&input, 1);
-    one = call_all(&first);
-    other = call_all(&second);
+    one = call_all(&first, &copy);
+    other = call_all(&second, &copy);
     require_same(&one, &other);
+    require_as_sheet(&second, &one, &copy);
     require_not_better(&one.planning, &one.checking);
     require_written(&first, &one);
     one.ties = require_no_rival(&second, &one.reading, &one.planning);

@@ -8,7 +8,7 @@
 
 #include "refusals.h"
 
-enum call { READ, CHECK, FIND, CALLS };
+enum call { READ, CHECK, FIND, TIDY, CALLS };
 
 struct tally {
     uint64_t inputs;
