@@ -3,27 +3,21 @@
 
 #include <string.h>
 
+#include "bars.h"
 #include "input.h"
 #include "layout.h"
 
-enum { MOST_AMOUNT = 10000, MOST_PAIRS = 2000, NO_PARENT = 65535 };
+enum { MOST_AMOUNT = 10000, NO_PARENT = 65535 };
 enum { CAPACITY = 1, UP_CAPACITY = 3, DOWN_CAPACITY = 5, CABINET_FIELDS = 7 };
-
-/* Some of the numbers below another: so many, from the first on and past the last to 0. */
-struct some {
-    unsigned first, many;
-};
 
 /* The numbers of records, and what amounts and barred pairs are like. */
 struct road {
     unsigned count[BLOCKS];
-    unsigned most;        /* amounts are at most this */
-    unsigned room;        /* about how many demands a cabinet's capacity is made for */
-    unsigned width;       /* the same for a link */
-    unsigned shape;       /* of the tree */
-    int has_fourth;       /* there is a block of barred pairs, though perhaps without a pair */
-    struct some services; /* those that are barred from a cabinet */
-    struct some cabinets; /* those that a service is barred from */
+    unsigned most;  /* amounts are at most this */
+    unsigned room;  /* about how many demands a cabinet's capacity is made for */
+    unsigned width; /* the same for a link */
+    unsigned shape; /* of the tree */
+    struct bars bars;
 };
 
 /* Mostly few services and cabinets: time grows with 3^r and with s. */
@@ -46,33 +40,13 @@ static void draw_counts(struct random *random, struct road *road)
         road->count[STREAMS] = random_below(random, random_once_in(random, 64) ? 101 : 5);
 }
 
-static struct some draw_some(struct random *random, unsigned below)
+/* As many records of each kind as there may be, and every pair: the longest copy. */
+static void draw_longest(struct random *random, struct road *road)
 {
-    struct some some;
-
-    some.first = random_below(random, below);
-    some.many = 1 + random_below(random, below);
-    return some;
-}
-
-/* No block, no pair, few pairs, or many; without a service there is none to bar. Pairs repeat, and
- * leave some services or cabinets free, so that many of them do not bar every plan. */
-static void draw_bars(struct random *random, struct road *road)
-{
-    unsigned large = random_below(random, 4096);
-    unsigned pairs = 1 + random_below(random, 5);
-
-    if (large == 0)
-        pairs = MOST_PAIRS - random_below(random, 2);
-    else if (large < 64)
-        pairs = random_below(random, 100);
-    road->has_fourth = random_below(random, 3) > 0;
-    road->count[BARRED] = 0;
-    if (!road->has_fourth || road->count[SERVICES] == 0 || random_once_in(random, 8))
-        return;
-    road->count[BARRED] = pairs;
-    road->services = draw_some(random, road->count[SERVICES]);
-    road->cabinets = draw_some(random, road->count[CABINETS]);
+    road->count[SERVICES] = 10;
+    road->count[CABINETS] = 200;
+    road->count[STREAMS] = 100;
+    road->bars = bar_all(random, 10, 200);
 }
 
 static void draw_road(struct random *random, struct road *road)
@@ -80,7 +54,10 @@ static void draw_road(struct random *random, struct road *road)
     static const unsigned most[8] = {1, 2, 4, 4, 9, 100, MOST_AMOUNT, MOST_AMOUNT};
 
     draw_counts(random, road);
-    draw_bars(random, road);
+    road->bars = draw_bars(random, road->count[SERVICES], road->count[CABINETS]);
+    if (random_once_in(random, 8192))
+        draw_longest(random, road);
+    road->count[BARRED] = road->bars.pairs;
     road->most = most[random_below(random, 8)];
     road->room = random_below(random, 8);
     road->width = random_below(random, 8);
@@ -146,17 +123,6 @@ static void write_stream(struct random *random, const struct road *road, uint8_t
     put_word(at, 4, draw_amount(random, road));
 }
 
-static unsigned draw_one(struct random *random, struct some some, unsigned below)
-{
-    return (some.first + random_below(random, some.many)) % below;
-}
-
-static void write_pair(struct random *random, const struct road *road, uint8_t *at)
-{
-    put_word(at, 0, draw_one(random, road->services, road->count[SERVICES]));
-    put_word(at, 2, draw_one(random, road->cabinets, road->count[CABINETS]));
-}
-
 /* The records of a sheet that has its header. */
 static void write_records(struct random *random, const struct road *road, uint8_t *bytes)
 {
@@ -169,7 +135,7 @@ static void write_records(struct random *random, const struct road *road, uint8_
     for (i = 0; i < road->count[STREAMS]; i++)
         write_stream(random, road, bytes + place_of(bytes, STREAMS, i, 0));
     for (i = 0; i < road->count[BARRED]; i++)
-        write_pair(random, road, bytes + place_of(bytes, BARRED, i, 0));
+        write_pair(random, &road->bars, i, bytes + place_of(bytes, BARRED, i, 0));
 }
 
 static size_t draw_gap(struct random *random)
@@ -181,7 +147,7 @@ static size_t size_of(const struct road *road, unsigned block)
 {
     size_t records = 2 * fields_of[block] * road->count[block];
 
-    return block == BARRED && road->has_fourth ? 2 + records : records;
+    return block == BARRED && road->bars.has_block ? 2 + records : records;
 }
 
 /* The blocks in any order. */
@@ -213,7 +179,7 @@ static size_t draw_layout(struct random *random, const struct road *road, size_t
     for (i = 0; i < BLOCKS; i++)
         if (size_of(road, i) == 0)
             offset[i] = HEADER + random_below(random, (unsigned)(length - HEADER + 1));
-    if (!road->has_fourth)
+    if (!road->bars.has_block)
         offset[BARRED] = 0;
     return length;
 }
@@ -228,7 +194,7 @@ static void write_header(const struct road *road, uint8_t *bytes, size_t length,
     for (i = 0; i < BLOCKS; i++)
         put_word(bytes, offset_word[i], (unsigned)offset[i]);
     put_word(bytes, LENGTH_WORD, (unsigned)length);
-    if (road->has_fourth)
+    if (road->bars.has_block)
         put_word(bytes, offset[BARRED], road->count[BARRED]);
 }
 
