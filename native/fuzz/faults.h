@@ -44,6 +44,14 @@ struct plan {
     uint64_t number;
 };
 
+struct tidy {
+    struct sheet sheet;
+    uint8_t *output;
+    size_t output_len;
+    uint64_t *answer;
+    uint64_t number;
+};
+
 struct bound {
     size_t services, cabinets;
     uint64_t *answer;
@@ -61,6 +69,7 @@ struct fault {
     void (*barred)(struct record *call);
     void (*check)(struct check *call);
     void (*plan)(struct plan *call);
+    void (*tidy)(struct tidy *call);
     void (*bound)(struct bound *call);
 };
 
@@ -71,6 +80,8 @@ extern const struct fault reader_faults[];
 extern const struct fault checker_faults[];
 extern const struct fault planner_faults[];
 extern const struct fault first_faults[];
+extern const struct fault copy_faults[];
+extern const struct fault tidy_faults[];
 
 /* The archive's own calls. */
 void real_read(struct read *call);
@@ -80,6 +91,7 @@ void real_stream(struct record *call);
 void real_barred(struct record *call);
 void real_check(struct check *call);
 void real_plan(struct plan *call);
+void real_tidy(struct tidy *call);
 void real_bound(struct bound *call);
 
 /* What the archive says of a sheet; the counts are 0 if it is refused. */

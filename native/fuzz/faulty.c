@@ -21,6 +21,7 @@ uint64_t __real_gz_barred(const uint8_t *, size_t, size_t, uint64_t *);
 uint64_t __real_gz_check(const uint8_t *, size_t, const uint16_t *, size_t, uint64_t *);
 uint64_t __real_gz_plan(const uint8_t *, size_t, uint16_t *, size_t, uint64_t *, size_t, uint16_t *,
                         size_t, uint64_t *);
+uint64_t __real_gz_tidy(const uint8_t *, size_t, uint8_t *, size_t, uint64_t *);
 uint64_t __real_gz_bound(size_t, size_t, uint64_t *);
 
 void real_read(struct read *call)
@@ -63,6 +64,12 @@ void real_plan(struct plan *call)
     call->number = __real_gz_plan(call->sheet.bytes, call->sheet.length, call->output,
                                   call->output_len, call->costs, call->costs_len, call->choices,
                                   call->choices_len, call->answer);
+}
+
+void real_tidy(struct tidy *call)
+{
+    call->number = __real_gz_tidy(call->sheet.bytes, call->sheet.length, call->output,
+                                  call->output_len, call->answer);
 }
 
 void real_bound(struct bound *call)
@@ -117,7 +124,7 @@ static const struct fault *find(unsigned long number)
 {
     static const struct fault none = {.what = "none"};
     const struct fault *lists[] = {sheet_faults, fourth_faults, reader_faults, checker_faults,
-                                   planner_faults, first_faults};
+                                   planner_faults, first_faults, copy_faults, tidy_faults};
     const struct fault *fault;
     size_t i;
 
@@ -206,6 +213,15 @@ uint64_t __wrap_gz_plan(const uint8_t *sheet, size_t sheet_len, uint16_t *output
                         choices_len, answer, 0};
 
     (chosen()->plan != NULL ? chosen()->plan : real_plan)(&call);
+    return call.number;
+}
+
+uint64_t __wrap_gz_tidy(const uint8_t *sheet, size_t sheet_len, uint8_t *output, size_t output_len,
+                        uint64_t *answer)
+{
+    struct tidy call = {given(sheet, sheet_len), output, output_len, answer, 0};
+
+    (chosen()->tidy != NULL ? chosen()->tidy : real_tidy)(&call);
     return call.number;
 }
 

@@ -5,7 +5,7 @@ set -euo pipefail
 ulimit -c 0
 
 build=target/native
-wrapped=(read service cabinet stream barred check plan bound)
+wrapped=(read service cabinet stream barred check plan tidy bound)
 
 # Compiles the given files, beside the target and the driver, into a program of the given name.
 compile() {
@@ -27,7 +27,8 @@ run_fault() {
 mkdir -p "$build"
 compile fuzz
 compile fuzz-faulty "${wrapped[@]/#/-Wl,--wrap=gz_}" \
-    native/fuzz/{faulty,faults_sheet,faults_fourth,faults_reader,faults_checker,faults_planner,faults_first}.c
+    native/fuzz/{faulty,faults_sheet,faults_fourth,faults_reader,faults_checker}.c \
+    native/fuzz/{faults_planner,faults_first,faults_copy,faults_tidy}.c
 
 "$build/fuzz"
 
