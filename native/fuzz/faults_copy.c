@@ -106,26 +106,33 @@ static void keep_repeats(struct sheet sheet)
     sort(BARRED, PAIR_BYTES, compare_pairs);
 }
 
+/* True if the pair is one of the first so many. */
+static int is_among(const uint8_t *pair, const uint8_t *pairs, size_t many)
+{
+    size_t i;
+
+    for (i = 0; i < many; i++)
+        if (compare_pairs(pairs + PAIR_BYTES * i, pair) == 0)
+            return 1;
+    return 0;
+}
+
 /* Each pair where it first stands in the sheet. */
 static void keep_order(struct sheet sheet)
 {
     uint8_t *pairs = made + place_of(made, BARRED, 0, 0);
+    size_t all = count_of(sheet.bytes, BARRED);
     size_t kept = 0;
     size_t i;
-    size_t earlier;
 
+    if (all == 0)
+        return;
     take_pairs(sheet);
-    for (i = 0; i < count_of(sheet.bytes, BARRED); i++) {
-        for (earlier = 0; earlier < kept; earlier++)
-            if (compare_pairs(pairs + PAIR_BYTES * earlier, pairs + PAIR_BYTES * i) == 0)
-                break;
-        if (earlier == kept)
+    for (i = 0; i < all; i++)
+        if (!is_among(pairs + PAIR_BYTES * i, pairs, kept))
             memmove(pairs + PAIR_BYTES * kept++, pairs + PAIR_BYTES * i, PAIR_BYTES);
-    }
-    if (kept > 0) {
-        put_word(made, offset_of(made, BARRED), (unsigned)kept);
-        set_length(end_of(made, BARRED));
-    }
+    put_word(made, offset_of(made, BARRED), (unsigned)kept);
+    set_length(end_of(made, BARRED));
 }
 
 static void order_by_cabinet(struct sheet sheet)

@@ -1,5 +1,5 @@
-/* faults_tidy.c: gz_tidy with wrong answers and in memory that it must leave, on purpose, and calls
- * that do not answer for a sheet as for its copy. */
+/* faults_tidy.c: gz_tidy with wrong answers and in memory that it must not touch, and calls that
+ * answer otherwise for the copy, on purpose. */
 #include <string.h>
 
 #include "faults.h"
