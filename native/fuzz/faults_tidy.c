@@ -36,7 +36,7 @@ static void tidy_exact_refused(struct tidy *call)
 {
     uint8_t copy[GZ_LONGEST_COPY];
 
-    if (copy_aside(call, copy) == call->output_len)
+    if (call->output_len > 0 && copy_aside(call, copy) == call->output_len)
         call->output_len--;
     real_tidy(call);
 }

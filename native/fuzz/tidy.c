@@ -8,7 +8,7 @@
 #include "refusals.h"
 #include "require.h"
 
-/* The choice that lends as much as any sheet needs. */
+/* The choice, modulo 8, that lends what suffices for any sheet. */
 enum { LONGEST = 3 };
 
 /* The bytes to lend. A sheet that is refused has no copy, which would be no longer than itself. */
