@@ -1,7 +1,9 @@
-// The program: a sheet comes from standard input, and its text goes to standard output.
+// The programs. Here the one that plans: a sheet comes from standard input, and its text goes to standard output.
 use libc::STDERR_FILENO;
 use libc::STDIN_FILENO;
 use libc::STDOUT_FILENO;
+
+pub mod tidying; // tidying.rt: the program that writes tidy copies
 
 // Says whether all of the text was written. If it was not, a line on standard error says so too.
 pub fn run() -> bool {

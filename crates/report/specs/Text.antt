@@ -57,6 +57,10 @@ line-end = 10 ∷ []
 unfoldable pub line : List ℕ → ℕ → List ℕ
 line word n = word ++ space ++ decimal n ++ line-end
 
+-- the line of a refusal
+abbrev pub refusal-line : ℕ → List ℕ
+refusal-line n = line refused-word n
+
 -- a line for each service from i on: its number and its cabinet
 unfoldable pub service-lines : ℕ → List ℕ → List ℕ
 service-lines i [] = []
@@ -65,7 +69,7 @@ service-lines i (c ∷ cs) = line (decimal i) c ++ service-lines (suc i) cs
 -- the text of an answer, with the cabinets of the plan that was written
 unfoldable pub answer-text : Planned → List ℕ → List ℕ
 answer-text (Plan cost count) plan = line cost-word cost ++ line weighed-word count ++ service-lines 0 plan
-answer-text (Refused f count) plan = line refused-word (number-of f)
+answer-text (Refused f count) plan = refusal-line (number-of f)
 
 -- the planner's answer with the memory that the program lends
 abbrev pub program-answer : List ℕ → Planned
@@ -77,4 +81,4 @@ sheet-text bytes = answer-text (program-answer bytes) (places (instance bytes .r
 
 -- the text that the program prints: that for a sheet, or refusal 17 where the bytes are too many
 unfoldable pub printed : List ℕ → List ℕ
-printed bytes = cond (ltb longest (length bytes)) (line refused-word too-long) (sheet-text bytes)
+printed bytes = cond (ltb longest (length bytes)) (refusal-line too-long) (sheet-text bytes)

@@ -4,7 +4,7 @@ ghost use Prim.Native.Nat.{_≤_};
 ghost use lib.ListN.{length, take};
 ghost use Rattle.io.specs.Counts.{Counts};
 ghost use Rattle.report.specs.Inner.Room.{room};
-ghost use Rattle.report.specs.Text.{answer-text, sheet-text, printed};
+ghost use Rattle.report.specs.Text.{refusal-line, answer-text, sheet-text, printed};
 ghost use Rattle.sheet.specs.Limits.{max-services};
 ghost use Rattle.sheet.specs.Reading.{reading, services};
 use planner::Planned;
@@ -68,6 +68,14 @@ fn answer(sheet: &[u8], text: &mut [u8]) -> usize
     let r = services_of(sheet);
     let planned = planner::plan(sheet, &mut output, &mut costs, &mut choices);
     put_answer(text, planned, &output[..r])
+}
+
+// Puts the line of a refusal at the start of `text`, and answers its length: the same line for every program.
+pub fn refuse(number: u16, text: &mut [u8; TEXT]) -> usize
+    ensures length { λ n. ⌜ Counts n (now (text .exit)) ⌝ }
+    ensures text { λ n. ⌜ take n (now (text .exit)) ≡ refusal-line number ⌝ }
+{
+    put_line(text, 0, b"refused", wide(number))
 }
 
 // Puts the text for a sheet at the start of `text`, and answers its length.

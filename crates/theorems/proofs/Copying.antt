@@ -1,12 +1,12 @@
 -- What the definitions of the tidy copy give: the work behind the theorems about it.
-use Prim.Native.Nat.{ℕ, _+_, _-_, _≤_, _<_}
+use Prim.Native.Nat.{ℕ, _+_, _-_, _≤_}
 use native.Mathlib.Omega.{arith}
 use mathlib.Core.Logic.{_↔_, _⊎_, inl, inr, ⊎-elim}
-use mathlib.Core.Path.{_≡_, refl, sym, ap, _∙_, subst}
+use mathlib.Core.Path.{_≡_, sym, ap, _∙_}
 use mathlib.Core.List.{List, _++_}
 use lib.ListN.{length, take, drop, getD, length-append, length-drop}
 use lib.Seq.{take-at, getD-append-add, getD-drop}
-use Rattle.sheet.specs.Refusals.{first-applying, number-of}
+use Rattle.sheet.specs.Refusals.{first-applying}
 use Rattle.sheet.specs.Reading.{reading}
 use Rattle.sheet.specs.Instance.{Instance, WellFormed, instance}
 use Rattle.sheet.specs.Said.{Said}

@@ -2,17 +2,16 @@
 use Prim.Native.Nat.{ℕ, zero, suc, _+_, _*_, _≤_, _<_}
 use native.Mathlib.Omega.{arith}
 use mathlib.Core.Path.{_≡_, refl, sym, ap, ap₂, _∙_}
-use mathlib.Core.Bool.{Bool, true, false, _&&_, _||_, not}
+use mathlib.Core.Bool.{Bool, true, false, _&&_, not}
 use mathlib.Core.List.{List, [], _∷_}
-use lib.Dec.{eqb, ltb, leb}
+use lib.Dec.{eqb, ltb}
 use lib.ListN.{length, getD}
 use borrow.Author.Tests.{ltb-true, ltb-false, le-ltb, lt-leb, eq-eqb, ne-eqb}
-use Rattle.finite.specs.Below.{any-below}
 use Rattle.finite.proofs.Booleans.{both, both-l, both-r, neither}
 use Rattle.finite.proofs.Tests.{any-none, any-in}
 use Rattle.sheet.specs.Limits.{max-services, max-cabinets, max-streams, max-pairs, max-amount}
-use Rattle.sheet.specs.Layout.{header-size, header, pair, services-size, cabinets-size, streams-size, pairs-size}
-use Rattle.sheet.specs.Conditions.{beyond-limits, wrong-length, outside, some-block-outside, holds, share, some-blocks-share, too-high, cabinet-too-high, some-amount-too-high, wrong-parent, some-parent-wrong, wrong-ends, some-ends-wrong, linked, root-linked, shared-by-pairs, pairs-block-wrong, wrong-pair, some-pair-wrong}
+use Rattle.sheet.specs.Layout.{header-size, services-size, cabinets-size, streams-size, pairs-size}
+use Rattle.sheet.specs.Conditions.{beyond-limits, outside, some-block-outside, holds, share, some-blocks-share, too-high, cabinet-too-high, some-amount-too-high, wrong-parent, some-parent-wrong, wrong-ends, some-ends-wrong, linked, root-linked, shared-by-pairs, pairs-block-wrong, wrong-pair, some-pair-wrong}
 use Rattle.sheet.specs.Refusals.{Rule, first-applying}
 use Rattle.sheet.specs.Reading.{rules, answered, reading}
 use Rattle.sheet.specs.Instance.{Instance, WellFormed}
@@ -20,7 +19,7 @@ use Rattle.sheet.specs.Inner.Fields.{cabinet-of, stream-of}
 use Rattle.sheet.specs.declared.Service.{Service}
 use Rattle.sheet.specs.declared.Stream.{Stream}
 use Rattle.sheet.specs.declared.Reading.the-variants.{Accepted}
-use Rattle.tidy.specs.Copy.{streams-end, fourth-size, copy-length, pair-words, pair-count, tidied}
+use Rattle.tidy.specs.Copy.{copy-length, pair-words, pair-count, tidied}
 use Rattle.tidy.proofs.Barred.{pair-among, pairs-most, pairs-named}
 use Rattle.tidy.proofs.Fourth.{no-offset, some-offset, some-size}
 use Rattle.tidy.proofs.Lengths.{copied-length}

@@ -12,14 +12,13 @@ use Rattle.finite.proofs.Booleans.{clash, same-test}
 use Rattle.finite.proofs.Tests.{any-in, any-at}
 use Rattle.sheet.specs.Layout.{part-from, pair}
 use Rattle.sheet.specs.Reading.{reading}
-use Rattle.sheet.specs.Instance.{Instance, names, instance}
+use Rattle.sheet.specs.Instance.{Instance, instance}
 use Rattle.sheet.specs.Records.{there, service-record, cabinet-record, stream-record, pair-record, bars}
 use Rattle.sheet.specs.Inner.Fields.{service-of, cabinet-of, stream-of}
 use Rattle.sheet.specs.declared.Sheet.{Sheet}
 use Rattle.sheet.specs.declared.Service.{Service}
 use Rattle.sheet.specs.declared.Cabinet.{Cabinet}
 use Rattle.sheet.specs.declared.Stream.{Stream}
-use Rattle.sheet.specs.declared.PairRecord.{PairRecord}
 use Rattle.sheet.specs.declared.PairRecord.the-variants as pairs
 use Rattle.sheet.specs.declared.ServiceRecord.the-variants as services
 use Rattle.sheet.specs.declared.CabinetRecord.the-variants as cabinets

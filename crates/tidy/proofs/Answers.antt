@@ -1,16 +1,16 @@
 -- Laws of the answers of the call that writes a copy: the numbers of its refusals, their groups and their order, and what is written.
-use Prim.Native.Nat.{ℕ, zero, suc, _+_, _≤_, _<_}
+use Prim.Native.Nat.{ℕ, zero, suc, _≤_}
 use native.Mathlib.Omega.{arith}
 use mathlib.Core.Logic.{_⊎_, inl, inr}
 use mathlib.Core.Path.{_≡_, refl, sym, ap, _∙_}
 use mathlib.Core.Bool.{Bool, true, false}
 use mathlib.Core.List.{List, [], _∷_, _++_}
 use lib.Dec.{ltb}
-use lib.ListN.{length}
+use lib.ListN.{length, drop, length-append}
 use borrow.Author.Tests.{ltb-false}
 use Rattle.sheet.specs.Reading as reader
 use Rattle.sheet.specs.Reading.{reading}
-use Rattle.sheet.specs.Instance.{Instance, instance}
+use Rattle.sheet.specs.Instance.{instance}
 use Rattle.sheet.specs.Refusals.{one-of, first-applying, refusal, number-of, giving, in-order}
 use Rattle.sheet.specs.declared.Sheet.{Sheet}
 use Rattle.sheet.specs.declared.Refusal.{Refusal}
@@ -18,10 +18,11 @@ use Rattle.sheet.specs.declared.Reading.{Reading}
 use Rattle.sheet.specs.declared.Reading.the-variants as readings
 use Rattle.sheet.proofs.Groups.{number-refusal, own-group, reading-group, one-of-left, first-listed, reading-number}
 use Rattle.sheet.proofs.Order.{after-reader}
-use Rattle.tidy.specs.Copy.{copy-length}
-use Rattle.tidy.specs.Answers.{number, room-rules, all-rules, tidy-numbers, given, written, answered, tidy-answer}
+use Rattle.tidy.specs.Copy.{copy-length, tidied}
+use Rattle.tidy.specs.Answers.{number, room-rules, all-rules, tidy-numbers, given, written, answered, tidy-answer, output-after}
 use Rattle.tidy.specs.declared.Written.{Written}
 use Rattle.tidy.specs.declared.Written.the-variants.{Bytes, Refused}
+use Rattle.tidy.proofs.Lengths.{copied-length}
 
 -- ---- every answer
 
@@ -89,3 +90,13 @@ tidy-written bytes n m e = go (reading bytes) refl e
         → ((h : Sheet) × (reading bytes ≡ readings.Accepted h)) × (m ≡ copy-length (instance bytes)) × (m ≤ n)
     go (readings.Accepted h) q e = let w = room (ltb n size) refl e in ((h, q), w .0, w .1)
     go (readings.Refused f) q e = absurd (let z : _≡_ {A = ℕ} 0 1 = cc in omega arith)
+
+-- the output after it is no shorter
+pub written-fits : (bytes output output' : List ℕ) (a : Written) (m : ℕ) → a ≡ tidy-answer bytes (length output)
+    → output' ≡ output-after (tidied (instance bytes)) a output → a ≡ Bytes m → m ≤ length output'
+unfolding output-after
+written-fits bytes output output' a m e o q =
+    let w = tidy-written bytes (length output) m (sym e ∙ q) in
+    let copy = tidied (instance bytes) in
+    let l : length output' ≡ length (copy ++ drop m output) = ap length (o ∙ ap (λ (b : Written). output-after copy b output) q) in
+    omega (arith, l, length-append copy (drop m output), copied-length (instance bytes), w .1)

@@ -2,9 +2,7 @@
 use Prim.Native.Nat.{ℕ, _<_}
 use mathlib.Core.Path.{_≡_, refl, ap, _∙_}
 use mathlib.Core.Bool.{Bool, _&&_}
-use mathlib.Core.List.{List}
 use lib.Dec.{ltb}
-use borrow.Author.Tests.{lt-ltb}
 use Rattle.finite.specs.Below.{only}
 use Rattle.sheet.specs.Layout.{service, cabinet, stream, pair}
 use Rattle.sheet.specs.Instance.{Instance, WellFormed, some-names, instance}

@@ -3,20 +3,20 @@ use Prim.Native.Nat.{ℕ, suc, _+_, _*_, _≤_, _<_}
 use native.Mathlib.Omega.{arith}
 use mathlib.Core.Path.{_≡_, refl, sym, ap, ap₂, _∙_}
 use mathlib.Core.Bool.{Bool, true, false, _&&_}
-use mathlib.Core.List.{List, [], _∷_, _++_, append-assoc}
+use mathlib.Core.List.{List, _∷_, _++_, append-assoc}
 use lib.Dec.{eqb, ltb, leb}
 use lib.ListN.{length, getD, drop}
 use lib.Seq.{getD-append-add}
 use borrow.Author.Tests.{ltb-true, ltb-false, lt-ltb, le-leb}
-use Rattle.finite.specs.Below.{only, any-below}
+use Rattle.finite.specs.Below.{only}
 use Rattle.finite.proofs.Tests.{any-ext}
 use Rattle.sheet.specs.Layout.{word-at, header-size, length-word, eighth-word, pairs-count, header, service-in, cabinet-in, stream-in, pair-in, service, cabinet, stream, pair}
 use Rattle.sheet.specs.Instance.{Instance, names, some-names}
 use Rattle.sheet.specs.Inner.Fields.{service-of, cabinet-of, stream-of}
 use Rattle.sheet.specs.declared.Sheet.{Sheet}
 use Rattle.sheet.specs.declared.Pair.{Pair}
-use Rattle.tidy.specs.Words.{from-words, concat-below}
-use Rattle.tidy.specs.Copy.{cabinets-from, streams-from, streams-end, fourth-size, fourth-from, copy-length, service-words, cabinet-words, stream-words, pair-words, pair-count, fourth-words, tidy-words, tidied}
+use Rattle.tidy.specs.Words.{from-words}
+use Rattle.tidy.specs.Copy.{cabinets-from, streams-from, fourth-from, copy-length, service-words, cabinet-words, stream-words, pair-words, pair-count, fourth-words, tidy-words, tidied}
 use Rattle.tidy.proofs.Concat.{rejoined, part-read, field-read}
 use Rattle.tidy.proofs.Barred.{pair-among}
 use Rattle.tidy.proofs.Fourth.{no-offset, some-offset, some-size, some-words}

@@ -6,7 +6,7 @@ use mathlib.Core.List.{List, _++_}
 use lib.ListN.{length, length-append}
 use Rattle.sheet.specs.Instance.{Instance}
 use Rattle.tidy.specs.Words.{concat-below}
-use Rattle.tidy.specs.Copy.{streams-end, copy-length, header-words, service-words, cabinet-words, stream-words, pair-count, fourth-words, tidy-words, tidied}
+use Rattle.tidy.specs.Copy.{copy-length, header-words, service-words, cabinet-words, stream-words, pair-count, fourth-words, tidy-words, tidied}
 use Rattle.tidy.proofs.Concat.{bytes-length, concat-length}
 use Rattle.tidy.proofs.Fourth.{fourth-length}
 

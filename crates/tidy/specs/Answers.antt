@@ -9,7 +9,7 @@ use Rattle.sheet.specs.Reading.{reading}
 use Rattle.sheet.specs.Refusals.{Rule, first-applying, refusal, number-of, group-of}
 use Rattle.sheet.specs.declared.Reading.{Reading}
 use Rattle.sheet.specs.declared.Reading.the-variants as readings
-use Rattle.tidy.specs.Copy.{copy-length, tidied}
+use Rattle.tidy.specs.Copy.{copy-length}
 use Rattle.tidy.specs.declared.Written.{Written}
 use Rattle.tidy.specs.declared.Written.the-variants.{Bytes, Refused}
 

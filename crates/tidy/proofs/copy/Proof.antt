@@ -1,12 +1,11 @@
 -- `copy` meets its contract.
-use Prim.Native.Nat.{ℕ, suc, _+_, _-_, _*_, _^_, _≤_, _<_}
+use Prim.Native.Nat.{ℕ, _+_, _≤_}
 use native.Mathlib.Omega.{arith}
-use mathlib.Core.Path.{_≡_, refl, sym, ap, ap₂, _∙_, subst}
+use mathlib.Core.Path.{_≡_, refl, sym, ap, _∙_}
 use borrow.Author.Needs.{needs}
-use lib.ListN.{length, getD, set, length-set}
+use lib.ListN.{length}
 use mathlib.Core.List.{_++_}
 use lib.ListN.{drop}
-use Rattle.sheet.specs.Limits.{max-pairs}
 use Rattle.records.specs.Told.{told}
 use Rattle.tidy.specs.Copy.{pair-count, fourth-size, copy-length, tidied}
 use Rattle.tidy.specs.Answers.{output-after}

@@ -1,13 +1,10 @@
 -- `tidy` meets its contract.
-use Prim.Native.Nat.{ℕ, suc, _+_, _-_, _*_, _^_, _≤_, _<_}
-use native.Mathlib.Omega.{arith}
-use mathlib.Core.Path.{_≡_, refl, sym, ap, ap₂, _∙_, subst}
+use mathlib.Core.Path.{_≡_, refl, sym, ap, _∙_, subst}
 use borrow.Author.Needs.{needs}
-use lib.ListN.{length, getD, set, length-set}
+use lib.ListN.{length}
 use Rattle.sheet.specs.Instance.{Instance, WellFormed, instance}
 use Rattle.sheet.specs.declared.Reading.{Reading}
 use Rattle.sheet.proofs.Promises.{well-formed}
-use Rattle.records.specs.Told.{told}
 use Rattle.tidy.specs.Copy.{copy-length, tidied}
 use Rattle.tidy.specs.Answers.{written, answered, tidy-answer, output-after}
 use Rattle.tidy.specs.Inner.Limited.{Limited}

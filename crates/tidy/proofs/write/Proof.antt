@@ -1,9 +1,8 @@
 -- `write` meets its contract.
-use Prim.Native.Nat.{ℕ, suc, _+_, _-_, _*_, _^_, _≤_, _<_}
+use Prim.Native.Nat.{ℕ}
 use native.Mathlib.Omega.{arith}
-use mathlib.Core.Path.{_≡_, refl, sym, ap, ap₂, _∙_, subst}
+use mathlib.Core.Path.{_≡_, ap, _∙_}
 use borrow.Author.Needs.{needs}
-use lib.ListN.{length, getD, set, length-set}
 use Rattle.records.specs.Told.{told}
 use Rattle.tidy.specs.Copy.{header-words, pair-count, fourth-size}
 use Rattle.tidy.specs.Inner.Put.{put}

@@ -1,9 +1,6 @@
 -- `gz_tidy` meets its contract.
-use Prim.Native.Nat.{ℕ, suc, _+_, _-_, _*_, _^_, _≤_, _<_}
-use native.Mathlib.Omega.{arith}
-use mathlib.Core.Path.{_≡_, refl, sym, ap, ap₂, _∙_, subst}
+use mathlib.Core.Path.{ap, _∙_}
 use borrow.Author.Needs.{needs}
-use lib.ListN.{length, getD, set, length-set}
 use Rattle.sheet.specs.Instance.{instance}
 use Rattle.tidy.specs.declared.Written.{Written}
 use Rattle.tidy.specs.Copy.{tidied}

@@ -1,9 +1,6 @@
 -- `tell` meets its contract.
-use Prim.Native.Nat.{ℕ, suc, _+_, _-_, _*_, _^_, _≤_, _<_}
-use native.Mathlib.Omega.{arith}
-use mathlib.Core.Path.{_≡_, refl, sym, ap, ap₂, _∙_, subst}
+use mathlib.Core.Path.{sym, ap, _∙_}
 use borrow.Author.Needs.{needs}
-use lib.ListN.{length, getD, set, length-set}
 use Rattle.tidy.specs.Answers.{number}
 use Rattle.gazrieksne.specs.Copies.{written-answer}
 use borrow.Author.Needs.{needs}

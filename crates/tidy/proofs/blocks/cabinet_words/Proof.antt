@@ -1,10 +1,6 @@
 -- `cabinet_words` meets its contract.
-use Prim.Native.Nat.{ℕ, suc, _+_, _-_, _*_, _^_, _≤_, _<_}
-use native.Mathlib.Omega.{arith}
-use mathlib.Core.Path.{_≡_, refl, sym, ap, ap₂, _∙_, subst}
 use borrow.Author.Needs.{needs}
-use lib.ListN.{length, getD, set, length-set}
-use mathlib.Core.List.{List, [], _∷_}
+use mathlib.Core.List.{[], _∷_}
 use Rattle.records.specs.Told.{told}
 use borrow.Author.Needs.{needs}
 use Rattle.tidy.proofs.blocks.cabinet_words.Statement.{statement}

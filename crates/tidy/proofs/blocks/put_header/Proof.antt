@@ -1,11 +1,9 @@
 -- `put_header` meets its contract.
-use Prim.Native.Nat.{ℕ, suc, _+_, _-_, _*_, _^_, _≤_, _<_}
+use Prim.Native.Nat.{ℕ, _+_}
 use native.Mathlib.Omega.{arith}
-use mathlib.Core.Path.{_≡_, refl, sym, ap, ap₂, _∙_, subst}
+use mathlib.Core.Path.{ap₂, _∙_}
 use borrow.Author.Needs.{needs}
-use lib.ListN.{length, getD, set, length-set}
-use mathlib.Core.List.{List, [], _∷_}
-use Rattle.sheet.specs.Layout.{header-size}
+use mathlib.Core.List.{[], _∷_}
 use Rattle.tidy.specs.Inner.Put.{put}
 use Rattle.tidy.proofs.Fourth.{size-most, offset-most}
 use borrow.Author.Needs.{needs}

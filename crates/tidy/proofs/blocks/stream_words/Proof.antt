@@ -1,9 +1,5 @@
 -- `stream_words` meets its contract.
-use Prim.Native.Nat.{ℕ, suc, _+_, _-_, _*_, _^_, _≤_, _<_}
-use native.Mathlib.Omega.{arith}
-use mathlib.Core.Path.{_≡_, refl, sym, ap, ap₂, _∙_, subst}
 use borrow.Author.Needs.{needs}
-use lib.ListN.{length, getD, set, length-set}
 use Rattle.records.specs.Told.{told}
 use borrow.Author.Needs.{needs}
 use Rattle.tidy.proofs.blocks.stream_words.Statement.{statement}

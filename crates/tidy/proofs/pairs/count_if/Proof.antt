@@ -1,9 +1,5 @@
 -- `count_if` meets its contract.
-use Prim.Native.Nat.{ℕ, suc, _+_, _-_, _*_, _^_, _≤_, _<_}
-use native.Mathlib.Omega.{arith}
-use mathlib.Core.Path.{_≡_, refl, sym, ap, ap₂, _∙_, subst}
 use borrow.Author.Needs.{needs}
-use lib.ListN.{length, getD, set, length-set}
 use Rattle.finite.specs.Below.{only}
 use Rattle.tidy.proofs.pairs.count_if.Statement.{statement}
 use Rattle.tidy.proofs.pairs.count_if.Tie as tie

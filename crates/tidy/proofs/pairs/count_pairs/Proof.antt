@@ -1,9 +1,8 @@
 -- `count_pairs` meets its contract.
-use Prim.Native.Nat.{ℕ, suc, _+_, _-_, _*_, _^_, _≤_, _<_}
+use Prim.Native.Nat.{ℕ, _+_, _-_, _≤_}
 use native.Mathlib.Omega.{arith}
-use mathlib.Core.Path.{_≡_, refl, sym, ap, ap₂, _∙_, subst}
+use mathlib.Core.Path.{_≡_, refl, sym, ap, ap₂, _∙_}
 use borrow.Author.Needs.{needs}
-use lib.ListN.{length, getD, set, length-set}
 use Rattle.finite.specs.Below.{sum-below}
 use Rattle.finite.proofs.Sums.{sum-start, sum-next, sum-le}
 use Rattle.sheet.specs.Limits.{max-cabinets}

@@ -1,9 +1,7 @@
 -- `fourth_from` meets its contract.
-use Prim.Native.Nat.{ℕ, suc, _+_, _-_, _*_, _^_, _≤_, _<_}
 use native.Mathlib.Omega.{arith}
-use mathlib.Core.Path.{_≡_, refl, sym, ap, ap₂, _∙_, subst}
+use mathlib.Core.Path.{sym, _∙_}
 use borrow.Author.Needs.{needs}
-use lib.ListN.{length, getD, set, length-set}
 use Rattle.tidy.proofs.Fourth.{no-offset, some-offset}
 use borrow.Author.Needs.{needs}
 use Rattle.tidy.proofs.places.fourth_from.Statement.{statement}
