@@ -1,7 +1,9 @@
 // Where the blocks of a copy start and end, for counts within the limits of a sheet.
 ghost use mathlib.Core.Path.{_≡_};
-ghost use Rattle.sheet.specs.Limits.{max-services, max-cabinets, max-streams, max-pairs};
 ghost use Prim.Native.Nat.{_≤_};
+ghost use lib.Dec.{ltb};
+ghost use Rattle.finite.specs.Below.{only};
+ghost use Rattle.sheet.specs.Limits.{max-services, max-cabinets, max-streams, max-pairs};
 ghost use Rattle.tidy.specs.Copy.{cabinets-from, streams-from, streams-end, fourth-size, fourth-from};
 use sheet::Sheet;
 
@@ -26,24 +28,28 @@ pub(crate) fn streams_end(r: usize, s: usize, q: usize) -> usize
     streams_from(r, s) + Sheet::STREAM * q
 }
 
-// The bytes of the fourth block: none without a pair.
+// A number that stands with pairs alone: 0 without a pair.
+fn with_pairs(pairs: usize, n: usize) -> usize
+    ensures { λ m. ⌜ m ≡ only (ltb 0 pairs) n ⌝ }
+{
+    if pairs == 0 {
+        return 0;
+    }
+    n
+}
+
+// The bytes of the fourth block.
 pub(crate) fn fourth_size(pairs: usize) -> usize
     requires { ⌜ pairs ≤ max-pairs ⌝ }
     ensures { λ n. ⌜ n ≡ fourth-size pairs ⌝ }
 {
-    if pairs == 0 {
-        return 0;
-    }
-    Sheet::COUNT + Sheet::PAIR * pairs
+    with_pairs(pairs, Sheet::COUNT + Sheet::PAIR * pairs)
 }
 
-// The eighth word: 0 without a pair.
+// The eighth word.
 pub(crate) fn fourth_from(r: usize, s: usize, q: usize, pairs: usize) -> usize
     requires { ⌜ (r ≤ max-services) × (s ≤ max-cabinets) × (q ≤ max-streams) ⌝ }
     ensures { λ n. ⌜ n ≡ fourth-from r s q pairs ⌝ }
 {
-    if pairs == 0 {
-        return 0;
-    }
-    streams_end(r, s, q)
+    with_pairs(pairs, streams_end(r, s, q))
 }

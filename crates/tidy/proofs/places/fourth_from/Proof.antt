@@ -1,20 +1,22 @@
 -- `fourth_from` meets its contract.
-use native.Mathlib.Omega.{arith}
-use mathlib.Core.Path.{sym, _∙_}
+use mathlib.Core.Path.{ap, _∙_}
 use borrow.Author.Needs.{needs}
-use Rattle.tidy.proofs.Fourth.{no-offset, some-offset}
+use lib.Dec.{ltb}
+use Rattle.finite.specs.Below.{only}
+use Rattle.tidy.specs.Copy.{fourth-from}
 use borrow.Author.Needs.{needs}
 use Rattle.tidy.proofs.places.fourth_from.Statement.{statement}
 use Rattle.tidy.proofs.places.fourth_from.Tie as tie
 
-returns : tie.Need-returns
-returns c = sym (no-offset _ _ _ _ (omega arith))
-
 streams-end-requires : tie.Need-streams-end-requires
 streams-end-requires c κs = search needs
 
-returns-2 : tie.Need-returns-2
-returns-2 c = c .streams-end .ensures ∙ sym (some-offset _ _ _ _ (omega arith))
+with-pairs-requires : tie.Need-with-pairs-requires
+with-pairs-requires c κs = search needs
+
+returns : tie.Need-returns
+unfolding fourth-from
+returns c = c .with-pairs .ensures ∙ ap (only (ltb 0 (c .before .before .args .pairs))) (c .before .streams-end .ensures)
 
 pub fourth-from-spec : {M : Type 1} → statement M
-fourth-from-spec = tie.close (tie.spec returns streams-end-requires returns-2)
+fourth-from-spec = tie.close (tie.spec streams-end-requires with-pairs-requires returns)

@@ -1,23 +1,22 @@
 -- `fourth_size` meets its contract.
-use native.Mathlib.Omega.{arith}
-use mathlib.Core.Path.{sym}
 use borrow.Author.Needs.{needs}
-use Rattle.tidy.proofs.Fourth.{no-size, some-size}
+use Rattle.tidy.specs.Copy.{fourth-size}
 use borrow.Author.Needs.{needs}
 use Rattle.tidy.proofs.places.fourth_size.Statement.{statement}
 use Rattle.tidy.proofs.places.fourth_size.Tie as tie
 
+mul-with-pairs : tie.Need-mul-with-pairs
+mul-with-pairs c = search needs
+
+add-with-pairs : tie.Need-add-with-pairs
+add-with-pairs c = search needs
+
+with-pairs-requires : tie.Need-with-pairs-requires
+with-pairs-requires c κs = search needs
+
 returns : tie.Need-returns
-returns c = sym (no-size _ (omega arith))
-
-mul-result : tie.Need-mul-result
-mul-result c = search needs
-
-add-result : tie.Need-add-result
-add-result c = search needs
-
-returns-2 : tie.Need-returns-2
-returns-2 c = sym (some-size _ (omega arith))
+unfolding fourth-size
+returns c = c .with-pairs .ensures
 
 pub fourth-size-spec : {M : Type 1} → statement M
-fourth-size-spec = tie.close (tie.spec returns mul-result add-result returns-2)
+fourth-size-spec = tie.close (tie.spec mul-with-pairs add-with-pairs with-pairs-requires returns)
