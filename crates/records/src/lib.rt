@@ -3,6 +3,7 @@ ghost use mathlib.Core.Path.{_≡_};
 ghost use lib.Dec.{ltb};
 ghost use lib.ListN.{getD};
 ghost use Rattle.finite.specs.Below.{only};
+ghost use Rattle.subsets.specs.Sets.{has};
 ghost use Rattle.sheet.specs.Reading.{reading};
 ghost use Rattle.sheet.specs.Inner.Fields.{service-of, cabinet-of, stream-of};
 ghost use Rattle.records.specs.Told.{told, LoadedFrom};
@@ -77,6 +78,13 @@ pub fn field(column: &[u16], count: usize, i: usize) -> u16
     column[i]
 }
 
+// Whether service i is in the set of cabinet c, of so many cabinets; not where there is no such cabinet. For a loop, in the same way.
+pub fn is_in_set(sets: &[u16], count: usize, c: usize, i: usize) -> bool
+    ensures { λ b. ⌜ b ≡ has (only (ltb c count) (getD (now (sets .entry)) c 0)) i ⌝ }
+{
+    member(index(field(sets, count, c)), i)
+}
+
 fn wide(x: u16) -> u64
     ensures { λ r. ⌜ r ≡ x ⌝ }
 {
@@ -134,6 +142,6 @@ impl Records {
         if self.services <= i {
             return false;
         }
-        member(index(field(&self.barred, self.cabinets, c)), i)
+        is_in_set(&self.barred, self.cabinets, c, i)
     }
 }

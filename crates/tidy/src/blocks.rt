@@ -39,38 +39,6 @@ pub(crate) fn put_header(out: &mut [u8], r: usize, s: usize, q: usize, pairs: us
     put_words(out, 0, &words[..]);
 }
 
-fn service_words(records: Records, i: usize) -> [u16; 1]
-    ensures { λ w. ⌜ w ≡ service-words (told records) i ⌝ }
-{
-    [field(&records.demand, records.services, i)]
-}
-
-fn cabinet_words(records: Records, c: usize) -> [u16; 7]
-    ensures { λ w. ⌜ w ≡ cabinet-words (told records) c ⌝ }
-{
-    let n = records.cabinets;
-    [
-        field(&records.parent, n, c),
-        field(&records.capacity, n, c),
-        field(&records.price, n, c),
-        field(&records.up_capacity, n, c),
-        field(&records.up_price, n, c),
-        field(&records.down_capacity, n, c),
-        field(&records.down_price, n, c),
-    ]
-}
-
-fn stream_words(records: Records, j: usize) -> [u16; 3]
-    ensures { λ w. ⌜ w ≡ stream-words (told records) j ⌝ }
-{
-    let n = records.streams;
-    [
-        field(&records.from, n, j),
-        field(&records.to, n, j),
-        field(&records.load, n, j),
-    ]
-}
-
 pub(crate) fn put_services(out: &mut [u8], at: usize, records: Records)
     requires { ⌜ at + 2 * told records .r ≤ length (now out) ⌝ }
     ensures { λ u. ⌜ now (out .exit) ≡ put (now (out .entry)) at (concat-below (told records .r) (service-words (told records))) ⌝ }
@@ -78,7 +46,7 @@ pub(crate) fn put_services(out: &mut [u8], at: usize, records: Records)
     let n = records.services;
     let mut i = 0;
     while i < n {
-        let words = service_words(records, i);
+        let words = [field(&records.demand, n, i)];
         put_words(out, at + Sheet::SERVICE * i, &words[..]);
         i += 1;
     }
@@ -91,7 +59,15 @@ pub(crate) fn put_cabinets(out: &mut [u8], at: usize, records: Records)
     let n = records.cabinets;
     let mut c = 0;
     while c < n {
-        let words = cabinet_words(records, c);
+        let words = [
+            field(&records.parent, n, c),
+            field(&records.capacity, n, c),
+            field(&records.price, n, c),
+            field(&records.up_capacity, n, c),
+            field(&records.up_price, n, c),
+            field(&records.down_capacity, n, c),
+            field(&records.down_price, n, c),
+        ];
         put_words(out, at + Sheet::CABINET * c, &words[..]);
         c += 1;
     }
@@ -104,7 +80,11 @@ pub(crate) fn put_streams(out: &mut [u8], at: usize, records: Records)
     let n = records.streams;
     let mut j = 0;
     while j < n {
-        let words = stream_words(records, j);
+        let words = [
+            field(&records.from, n, j),
+            field(&records.to, n, j),
+            field(&records.load, n, j),
+        ];
         put_words(out, at + Sheet::STREAM * j, &words[..]);
         j += 1;
     }

@@ -10,6 +10,7 @@ ghost use Rattle.tidy.specs.Inner.Put.{put};
 use crate::words::put_words;
 use crate::words::short;
 use records::Records;
+use records::is_in_set;
 use sheet::Sheet;
 
 fn count_if(test: bool) -> usize
@@ -23,14 +24,14 @@ fn count_if(test: bool) -> usize
 
 // How many cabinets service i is barred from.
 fn count_of_service(records: Records, i: usize) -> usize
-    requires { ⌜ told records .s ≤ max-cabinets ⌝ }
+    requires { ⌜ (i < told records .r) × (told records .s ≤ max-cabinets) ⌝ }
     ensures { λ n. ⌜ n ≡ service-count (told records) i ⌝ }
 {
     let cabinets = records.cabinets;
     let mut count = 0;
     let mut c = 0;
     while c < cabinets {
-        count += count_if(records.is_barred(i, c));
+        count += count_if(is_in_set(&records.barred, cabinets, c, i));
         c += 1;
     }
     count
@@ -67,7 +68,7 @@ fn put_pair_if(out: &mut [u8], at: usize, barred: bool, i: usize, c: usize) -> u
 
 // Writes the pairs of service i, and answers where the next one goes.
 fn put_of_service(out: &mut [u8], at: usize, records: Records, i: usize) -> usize
-    requires { ⌜ (i < max-services) × (told records .s ≤ max-cabinets) × (at + 4 * service-count (told records) i ≤ length (now out)) ⌝ }
+    requires { ⌜ (i < told records .r) × (told records .r ≤ max-services) × (told records .s ≤ max-cabinets) × (at + 4 * service-count (told records) i ≤ length (now out)) ⌝ }
     ensures next { λ n. ⌜ n ≡ at + 4 * service-count (told records) i ⌝ }
     ensures out { λ n. ⌜ now (out .exit) ≡ put (now (out .entry)) at (service-pairs (told records) i) ⌝ }
 {
@@ -75,7 +76,8 @@ fn put_of_service(out: &mut [u8], at: usize, records: Records, i: usize) -> usiz
     let mut next = at;
     let mut c = 0;
     while c < cabinets {
-        next = put_pair_if(out, next, records.is_barred(i, c), i, c);
+        let barred = is_in_set(&records.barred, cabinets, c, i);
+        next = put_pair_if(out, next, barred, i, c);
         c += 1;
     }
     next

@@ -1,12 +1,12 @@
 -- `is_barred` meets its contract: the members of a cabinet's set are the services barred from it.
-use Prim.Native.Nat.{ℕ, _<_}
+use Prim.Native.Nat.{_<_}
 use native.Mathlib.Omega.{arith}
-use mathlib.Core.Path.{ap, _∙_}
+use mathlib.Core.Path.{_∙_}
 use borrow.Author.Needs.{needs}
 use borrow.Author.Tests.{le-ltb}
-use Rattle.subsets.specs.Sets.{has}
 use Rattle.records.specs.Told.{told}
 use Rattle.records.proofs.Bars.{set-barred}
+use borrow.Author.Needs.{needs}
 use Rattle.records.proofs.Records.is_barred.Statement.{statement}
 use Rattle.records.proofs.Records.is_barred.Tie as tie
 
@@ -14,23 +14,14 @@ returns : tie.Need-returns
 unfolding told
 returns c = rw (le-ltb _ _ (c .if1 .taken))
 
-field-requires : tie.Need-field-requires
-field-requires c κs = search needs
-
-index-requires : tie.Need-index-requires
-index-requires c κs = search needs
-
-member-requires : tie.Need-member-requires
-member-requires c κs = search needs
+is-in-set-requires : tie.Need-is-in-set-requires
+is-in-set-requires c κs = search needs
 
 returns-2 : tie.Need-returns-2
 returns-2 c =
-    let a = c .before .before .before .before .before .before .before .args in
-    let there : a .i < a .t1 .services = omega (arith, c .before .before .before .before .before .before .if1 .left) in
-    c .member .ensures
-    ∙ ap (λ (x : ℕ). has x (a .i)) (c .before .index .ensures ∙ c .before .before .field .ensures)
-    ∙ set-barred (a .t1) (a .i) (a .c) there
+    let a = c .before .before .before .before .before .args in
+    let there : a .i < a .t1 .services = omega (arith, c .before .before .before .before .if1 .left) in
+    c .is-in-set .ensures ∙ set-barred (a .t1) (a .i) (a .c) there
 
 pub is-barred-spec : {M : Type 1} → statement M
-is-barred-spec =
-    tie.close (tie.spec returns field-requires index-requires member-requires returns-2)
+is-barred-spec = tie.close (tie.spec returns is-in-set-requires returns-2)

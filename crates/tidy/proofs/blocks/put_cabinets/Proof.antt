@@ -1,10 +1,10 @@
 -- `put_cabinets` meets its contract.
 use Prim.Native.Nat.{ℕ, _+_, _-_, _*_, _≤_}
 use native.Mathlib.Omega.{arith}
-use mathlib.Core.Path.{_≡_, refl, ap, ap₂, _∙_}
+use mathlib.Core.Path.{_≡_, refl, ap, _∙_}
 use borrow.Author.Needs.{needs}
 use lib.ListN.{length}
-use mathlib.Core.List.{List}
+use mathlib.Core.List.{[], _∷_}
 use Rattle.records.specs.Told.{told}
 use Rattle.tidy.specs.Words.{concat-below}
 use Rattle.tidy.specs.Copy.{cabinet-words}
@@ -20,44 +20,121 @@ Inv-loop out₀ at records n c₀ out c = (n ≡ told records .s) × (c ≤ n) �
 abbrev μ-loop : tie.MeasureT-loop
 μ-loop out₀ at records n c₀ out c = n - c
 
+-- the nodes of the function that its needs reach back to
+abbrev start-before-put-words-arg : tie.After-put-words-arg Inv-loop μ-loop → tie.Start Inv-loop μ-loop
+start-before-put-words-arg c = c .before .before .before .before .before .before .before .before .before .before .before .before .before .before .before .before .before .before .before .before .before .before .before .before .before .before .before .before .before .before .before .before
+
+abbrev at-loop-before-put-words-arg : tie.After-put-words-arg Inv-loop μ-loop → tie.At-loop Inv-loop μ-loop
+at-loop-before-put-words-arg c = c .before .before .before .before .before .before .before .before .before .before .before .before .before .before .before .before .before .before .before .before .before .before .before .before .before .before .before .before .before .before
+
+abbrev in-loop-before-put-words-arg : tie.After-put-words-arg Inv-loop μ-loop → tie.In-loop Inv-loop μ-loop
+in-loop-before-put-words-arg c = c .before .before .before .before .before .before .before .before .before .before .before .before .before .before .before .before .before .before .before .before .before .before .before .before .before .before .before .before .before
+
+abbrev start-before-words : tie.After-words Inv-loop μ-loop → tie.Start Inv-loop μ-loop
+start-before-words c = c .before .before .before .before .before .before .before .before .before .before .before .before .before .before .before .before .before .before .before .before .before .before .before .before .before .before .before .before .before .before .before .before .before
+
+abbrev at-loop-before-words : tie.After-words Inv-loop μ-loop → tie.At-loop Inv-loop μ-loop
+at-loop-before-words c = c .before .before .before .before .before .before .before .before .before .before .before .before .before .before .before .before .before .before .before .before .before .before .before .before .before .before .before .before .before .before .before
+
+abbrev in-loop-before-words : tie.After-words Inv-loop μ-loop → tie.In-loop Inv-loop μ-loop
+in-loop-before-words c = c .before .before .before .before .before .before .before .before .before .before .before .before .before .before .before .before .before .before .before .before .before .before .before .before .before .before .before .before .before .before
+
+abbrev start-before-slice-known2 : tie.After-slice-known2 Inv-loop μ-loop → tie.Start Inv-loop μ-loop
+start-before-slice-known2 c = c .before .before .before .before .before .before .before .before .before .before .before .before .before .before .before .before .before .before .before .before .before .before .before .before .before .before .before .before .before .before .before .before .before .before .before .before
+
+abbrev at-loop-before-slice-known2 : tie.After-slice-known2 Inv-loop μ-loop → tie.At-loop Inv-loop μ-loop
+at-loop-before-slice-known2 c = c .before .before .before .before .before .before .before .before .before .before .before .before .before .before .before .before .before .before .before .before .before .before .before .before .before .before .before .before .before .before .before .before .before .before
+
+abbrev in-loop-before-slice-known2 : tie.After-slice-known2 Inv-loop μ-loop → tie.In-loop Inv-loop μ-loop
+in-loop-before-slice-known2 c = c .before .before .before .before .before .before .before .before .before .before .before .before .before .before .before .before .before .before .before .before .before .before .before .before .before .before .before .before .before .before .before .before .before
+
+abbrev field-before-slice-known2 : tie.After-slice-known2 Inv-loop μ-loop → tie.After-field Inv-loop μ-loop
+field-before-slice-known2 c = c .before .before .before .before .before .before .before .before .before .before .before .before .before .before .before .before .before .before .before .before .before .before .before .before .before .before .before .before .before
+
+abbrev field2-before-slice-known2 : tie.After-slice-known2 Inv-loop μ-loop → tie.After-field2 Inv-loop μ-loop
+field2-before-slice-known2 c = c .before .before .before .before .before .before .before .before .before .before .before .before .before .before .before .before .before .before .before .before .before .before .before .before .before
+
+abbrev field3-before-slice-known2 : tie.After-slice-known2 Inv-loop μ-loop → tie.After-field3 Inv-loop μ-loop
+field3-before-slice-known2 c = c .before .before .before .before .before .before .before .before .before .before .before .before .before .before .before .before .before .before .before .before .before
+
+abbrev field4-before-slice-known2 : tie.After-slice-known2 Inv-loop μ-loop → tie.After-field4 Inv-loop μ-loop
+field4-before-slice-known2 c = c .before .before .before .before .before .before .before .before .before .before .before .before .before .before .before .before .before
+
+abbrev field5-before-slice-known2 : tie.After-slice-known2 Inv-loop μ-loop → tie.After-field5 Inv-loop μ-loop
+field5-before-slice-known2 c = c .before .before .before .before .before .before .before .before .before .before .before .before .before
+
+abbrev field6-before-slice-known2 : tie.After-slice-known2 Inv-loop μ-loop → tie.After-field6 Inv-loop μ-loop
+field6-before-slice-known2 c = c .before .before .before .before .before .before .before .before .before
+
+abbrev field7-before-slice-known2 : tie.After-slice-known2 Inv-loop μ-loop → tie.After-field7 Inv-loop μ-loop
+field7-before-slice-known2 c = c .before .before .before .before .before
+
+abbrev start-before-loop : tie.After-loop Inv-loop μ-loop → tie.Start Inv-loop μ-loop
+start-before-loop c = c .before .before .before
+
 loop-holds : tie.Need-loop-holds Inv-loop μ-loop
 unfolding told
 loop-holds c = (refl, omega arith, refl, record-start _ _ _)
 
-cabinet-words-requires : tie.Need-cabinet-words-requires Inv-loop μ-loop
-cabinet-words-requires c κs = search needs
+field-requires : tie.Need-field-requires Inv-loop μ-loop
+field-requires c κs = search needs
+
+field-requires-2 : tie.Need-field-requires-2 Inv-loop μ-loop
+field-requires-2 c κs = search needs
+
+field-requires-3 : tie.Need-field-requires-3 Inv-loop μ-loop
+field-requires-3 c κs = search needs
+
+field-requires-4 : tie.Need-field-requires-4 Inv-loop μ-loop
+field-requires-4 c κs = search needs
+
+field-requires-5 : tie.Need-field-requires-5 Inv-loop μ-loop
+field-requires-5 c κs = search needs
+
+field-requires-6 : tie.Need-field-requires-6 Inv-loop μ-loop
+field-requires-6 c κs = search needs
+
+field-requires-7 : tie.Need-field-requires-7 Inv-loop μ-loop
+field-requires-7 c κs = search needs
 
 mul-put-words : tie.Need-mul-put-words Inv-loop μ-loop
-mul-put-words c = omega (arith, c .before .before .before .before .before .pre, c .before .before .before .loop .inv .0, c .before .before .before .loop .inv .1)
+mul-put-words c = omega (arith, start-before-put-words-arg c .good, start-before-put-words-arg c .fits, start-before-put-words-arg c .pre, at-loop-before-put-words-arg c .loop .inv .0, at-loop-before-put-words-arg c .loop .inv .1, in-loop-before-put-words-arg c .loop-test .taken)
 
 add-put-words : tie.Need-add-put-words Inv-loop μ-loop
-add-put-words c = omega (arith, c .before .before .before .before .before .pre, c .before .before .before .loop .inv .0, c .before .before .before .loop .inv .1)
+add-put-words c = omega (arith, start-before-put-words-arg c .good, start-before-put-words-arg c .fits, start-before-put-words-arg c .pre, at-loop-before-put-words-arg c .loop .inv .0, at-loop-before-put-words-arg c .loop .inv .1, in-loop-before-put-words-arg c .loop-test .taken)
 
 slice-aggregate-put-words : tie.Need-slice-aggregate-put-words Inv-loop μ-loop
 slice-aggregate-put-words c = search needs
 
 put-words-requires : tie.Need-put-words-requires Inv-loop μ-loop
-put-words-requires c κs =
-    let k : length (c .before .before .cabinet-words .result) ≡ 7 = ap length (c .before .before .cabinet-words .ensures) in
-    omega (arith, k, c .before .before .before .before .before .before .pre, c .before .before .before .before .loop .inv .0, c .before .before .before .before .loop .inv .2)
+put-words-requires c κs = omega (arith, start-before-words c .pre, at-loop-before-words c .loop .inv .0, at-loop-before-words c .loop .inv .2, in-loop-before-words c .loop-test .taken)
 
 add-c : tie.Need-add-c Inv-loop μ-loop
-add-c c = search needs
+add-c c = omega (arith, start-before-slice-known2 c .good, start-before-slice-known2 c .fits, start-before-slice-known2 c .pre, at-loop-before-slice-known2 c .loop .inv .0, in-loop-before-slice-known2 c .loop-test .taken)
 
 loop-less : tie.Need-loop-less Inv-loop μ-loop
-loop-less c = search needs
+loop-less c = omega (arith, in-loop-before-slice-known2 c .loop-test .taken)
 
 loop-again : tie.Need-loop-again Inv-loop μ-loop
+unfolding told
 loop-again c =
-    let l = c .before .before .before .before .before .before .before .loop in
-    let a = c .before .before .before .before .before .before .before .before .before .args in
-    let I = told (a .records) in
+    let l = at-loop-before-slice-known2 c .loop in
+    let a = start-before-slice-known2 c .args in
+    let I = told (a .t3) in
     let k : length (concat-below (l .c) (cabinet-words I)) ≡ 7 * l .c = concat-length 7 (cabinet-words I) (λ d. refl) (l .c) in
+    let w0 = field-before-slice-known2 c .field .ensures in
+    let w1 = field2-before-slice-known2 c .field2 .ensures in
+    let w2 = field3-before-slice-known2 c .field3 .ensures in
+    let w3 = field4-before-slice-known2 c .field4 .ensures in
+    let w4 = field5-before-slice-known2 c .field5 .ensures in
+    let w5 = field6-before-slice-known2 c .field6 .ensures in
+    let w6 = field7-before-slice-known2 c .field7 .ensures in
+    let o = l .inv .3 in
     let e =
     c .before .before .put-words .ensures
-    ∙ ap₂ (λ (o ws : List ℕ). put o (a .at + 14 * l .c) ws) (l .inv .3) (c .before .before .before .before .before .cabinet-words .ensures)
-    ∙ record-next (cabinet-words I) (a .out .now) (a .at) (l .c) (a .at + 14 * l .c) (omega (arith, k, c .before .before .before .before .before .before .before .before .before .pre, l .inv .0, l .inv .1)) (omega (arith, k)) in
-    (l .inv .0, omega arith, search needs, e)
+    ∙ (λ k. put (o k) (a .at + 14 * l .c) (w0 k ∷ w1 k ∷ w2 k ∷ w3 k ∷ w4 k ∷ w5 k ∷ w6 k ∷ []))
+    ∙ record-next (cabinet-words I) (a .out .now) (a .at) (l .c) (a .at + 14 * l .c) (omega (arith, k, start-before-slice-known2 c .pre, l .inv .0, l .inv .1)) (omega (arith, k)) in
+    (l .inv .0, omega (arith, in-loop-before-slice-known2 c .loop-test .taken), search needs, e)
 
 same-length : tie.Need-same-length Inv-loop μ-loop
 same-length c = search needs
@@ -65,8 +142,8 @@ same-length c = search needs
 returns : tie.Need-returns Inv-loop μ-loop
 returns c =
     let l = c .before .loop in
-    let a = c .before .before .before .args in
-    let I = told (a .records) in
+    let a = start-before-loop c .args in
+    let I = told (a .t3) in
     l .inv .3 ∙ ap (λ (m : ℕ). put (a .out .now) (a .at) (concat-below m (cabinet-words I))) (let e : l .c ≡ I .s = omega (arith, l .inv .0, l .inv .1) in e)
 
 pub put-cabinets-spec : {M : Type 1} → statement M
@@ -76,7 +153,13 @@ put-cabinets-spec =
     Inv-loop
     μ-loop
     loop-holds
-    cabinet-words-requires
+    field-requires
+    field-requires-2
+    field-requires-3
+    field-requires-4
+    field-requires-5
+    field-requires-6
+    field-requires-7
     mul-put-words
     add-put-words
     slice-aggregate-put-words

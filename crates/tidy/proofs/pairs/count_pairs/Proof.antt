@@ -18,20 +18,24 @@ Inv-loop records services count₀ i₀ count i = (services ≡ told records .r)
 abbrev μ-loop : tie.MeasureT-loop
 μ-loop records services count₀ i₀ count i = services - i
 
+-- the nodes of the function that its needs reach back to
+abbrev start-before-count-of-service : tie.After-count-of-service Inv-loop μ-loop → tie.Start Inv-loop μ-loop
+start-before-count-of-service c = c .before .before .before
+
 loop-holds : tie.Need-loop-holds Inv-loop μ-loop
 unfolding told
 loop-holds c = (refl, omega arith, sum-start _)
 
 count-of-service-requires : tie.Need-count-of-service-requires Inv-loop μ-loop
-count-of-service-requires c κs = search needs
+count-of-service-requires c κs = (omega (arith, c .before .loop .inv .0), c .before .before .pre .1)
 
 add-count : tie.Need-add-count Inv-loop μ-loop
 add-count c =
     let l = c .before .before .loop in
-    let a = c .before .before .before .args in
+    let a = start-before-count-of-service c .args in
     let I = told (a .records) in
-    let n = sum-le (l .i) max-cabinets (service-count I) (λ d k. omega (arith, service-most I d, c .before .before .before .pre)) in
-    omega (arith, n, l .inv .0, l .inv .2, c .before .before .before .pre, c .count-of-service .ensures, service-most I (l .i))
+    let n = sum-le (l .i) max-cabinets (service-count I) (λ d k. omega (arith, service-most I d, start-before-count-of-service c .pre .1)) in
+    omega (arith, n, l .inv .0, l .inv .2, start-before-count-of-service c .pre .0, start-before-count-of-service c .pre .1, c .count-of-service .ensures, service-most I (l .i))
 
 add-i : tie.Need-add-i Inv-loop μ-loop
 add-i c = search needs
@@ -42,7 +46,7 @@ loop-less c = search needs
 loop-again : tie.Need-loop-again Inv-loop μ-loop
 loop-again c =
     let l = c .before .before .loop in
-    let a = c .before .before .before .args in
+    let a = start-before-count-of-service c .args in
     (l .inv .0, omega arith, ap₂ (λ (m n : ℕ). m + n) (l .inv .2) (c .count-of-service .ensures) ∙ sym (sum-next (l .i) (service-count (told (a .records)))))
 
 returns : tie.Need-returns Inv-loop μ-loop

@@ -28,6 +28,19 @@ Inv-loop out₀ at records services next₀ i₀ out next i = (services ≡ told
 abbrev μ-loop : tie.MeasureT-loop
 μ-loop out₀ at records services next₀ i₀ out next i = services - i
 
+-- the nodes of the function that its needs reach back to
+abbrev start-before-put-of-service-arg : tie.After-put-of-service-arg Inv-loop μ-loop → tie.Start Inv-loop μ-loop
+start-before-put-of-service-arg c = c .before .before .before .before
+
+abbrev at-loop-before-slice-known2 : tie.After-slice-known2 Inv-loop μ-loop → tie.At-loop Inv-loop μ-loop
+at-loop-before-slice-known2 c = c .before .before .before .before .before
+
+abbrev start-before-slice-known2 : tie.After-slice-known2 Inv-loop μ-loop → tie.Start Inv-loop μ-loop
+start-before-slice-known2 c = c .before .before .before .before .before .before .before
+
+abbrev start-before-loop : tie.After-loop Inv-loop μ-loop → tie.Start Inv-loop μ-loop
+start-before-loop c = c .before .before .before
+
 loop-holds : tie.Need-loop-holds Inv-loop μ-loop
 unfolding told
 loop-holds c = (refl, omega arith, refl, omega (arith, sum-start (service-count (told (c .before .args .records)))), record-start _ _ _)
@@ -35,9 +48,9 @@ loop-holds c = (refl, omega arith, refl, omega (arith, sum-start (service-count 
 put-of-service-requires : tie.Need-put-of-service-requires Inv-loop μ-loop
 put-of-service-requires c κs =
     let l = c .before .before .loop in
-    let a = c .before .before .before .before .args in
+    let a = start-before-put-of-service-arg c .args in
     let f = so-far (told (a .records)) (l .i) (omega (arith, l .inv .0)) in
-    (omega (arith, l .inv .0, c .before .before .before .before .pre .0), c .before .before .before .before .pre .1, omega (arith, f, c .before .before .before .before .pre .2, l .inv .2, l .inv .3))
+    (omega (arith, l .inv .0), start-before-put-of-service-arg c .pre .0, start-before-put-of-service-arg c .pre .1, omega (arith, f, start-before-put-of-service-arg c .pre .2, l .inv .2, l .inv .3))
 
 add-i : tie.Need-add-i Inv-loop μ-loop
 add-i c = search needs
@@ -47,15 +60,15 @@ loop-less c = search needs
 
 loop-again : tie.Need-loop-again Inv-loop μ-loop
 loop-again c =
-    let l = c .before .before .before .before .before .loop in
-    let a = c .before .before .before .before .before .before .before .args in
+    let l = at-loop-before-slice-known2 c .loop in
+    let a = start-before-slice-known2 c .args in
     let I = told (a .records) in
     let f = so-far I (l .i) (omega (arith, l .inv .0)) in
     let k = pieces-length (service-pairs I) (service-count I) (service-length I) (l .i) in
     let e =
     c .before .before .put-of-service .ensures .1
     ∙ ap (λ (o : List ℕ). put o (l .next) (service-pairs I (l .i))) (l .inv .4)
-    ∙ record-next (service-pairs I) (a .out .now) (a .at) (l .i) (l .next) (omega (arith, k, f, c .before .before .before .before .before .before .before .pre .2)) (omega (arith, k, l .inv .3)) in
+    ∙ record-next (service-pairs I) (a .out .now) (a .at) (l .i) (l .next) (omega (arith, k, f, start-before-slice-known2 c .pre .2)) (omega (arith, k, l .inv .3)) in
     (l .inv .0, omega arith, search needs, omega (arith, c .before .before .put-of-service .ensures .0, l .inv .3, sum-next (l .i) (service-count I)), e)
 
 same-length : tie.Need-same-length Inv-loop μ-loop
@@ -65,7 +78,7 @@ returns : tie.Need-returns Inv-loop μ-loop
 unfolding pair-words
 returns c =
     let l = c .before .loop in
-    let a = c .before .before .before .args in
+    let a = start-before-loop c .args in
     let I = told (a .records) in
     l .inv .4 ∙ ap (λ (m : ℕ). put (a .out .now) (a .at) (concat-below m (service-pairs I))) (let e : l .i ≡ I .r = omega (arith, l .inv .0, l .inv .1) in e)
 

@@ -16,6 +16,16 @@ Inv-loop out₀ at words k₀ out k = (k ≤ length words) × (length out ≡ le
 abbrev μ-loop : tie.MeasureT-loop
 μ-loop out₀ at words k₀ out k = length words - k
 
+-- the nodes of the function that its needs reach back to
+abbrev start-before-high : tie.After-high Inv-loop μ-loop → tie.Start Inv-loop μ-loop
+start-before-high c = c .before .before .before .before .before .before .before
+
+abbrev at-loop-before-high : tie.After-high Inv-loop μ-loop → tie.At-loop Inv-loop μ-loop
+at-loop-before-high c = c .before .before .before .before
+
+abbrev start-before-loop : tie.After-loop Inv-loop μ-loop → tie.Start Inv-loop μ-loop
+start-before-loop c = c .before .before .before .before
+
 loop-holds : tie.Need-loop-holds Inv-loop μ-loop
 loop-holds c = (omega arith, refl, sym (put-none (c .before .before .args .out .now) (c .before .before .args .at)))
 
@@ -45,9 +55,9 @@ add-out c = search needs
 
 slice-write-out-2 : tie.Need-slice-write-out-2 Inv-loop μ-loop
 slice-write-out-2 c =
-    let a = c .before .before .before .before .before .before .before .args in
-    let p = c .before .before .before .before .before .before .before .pre in
-    let l = c .before .before .before .before .loop in
+    let a = start-before-high c .args in
+    let p = start-before-high c .pre in
+    let l = at-loop-before-high c .loop in
     let m : length (set (l .out) (a .at + 2 * l .k) (c .before .low .result)) ≡ length (l .out) = length-set (l .out) (a .at + 2 * l .k) (c .before .low .result) in
     let h : a .at + 2 * l .k + 1 < length (set (l .out) (a .at + 2 * l .k) (c .before .low .result)) = omega (arith, p, l .inv .1) in
     h
@@ -60,9 +70,9 @@ loop-less c = search needs
 
 loop-again : tie.Need-loop-again Inv-loop μ-loop
 loop-again c =
-    let a = c .before .before .before .before .before .before .before .args in
-    let p = c .before .before .before .before .before .before .before .pre in
-    let l = c .before .before .before .before .loop in
+    let a = start-before-high c .args in
+    let p = start-before-high c .pre in
+    let l = at-loop-before-high c .loop in
     (omega arith, simp (length-set, length-set) (l .inv .1), ap₂ (λ (x y : ℕ). set (set (l .out) (a .at + 2 * l .k) x) (a .at + 2 * l .k + 1) y) (c .before .low .ensures) (c .high .ensures) ∙ ap (λ (o : List ℕ). set (set o (a .at + 2 * l .k) (getD (a .words .now) (l .k) 0 % 256)) (a .at + 2 * l .k + 1) (getD (a .words .now) (l .k) 0 / 256)) (l .inv .2) ∙ put-next (a .out .now) (a .at) (a .words .now) (l .k) (omega arith) p)
 
 same-length : tie.Need-same-length Inv-loop μ-loop
@@ -70,7 +80,7 @@ same-length c = search needs
 
 returns : tie.Need-returns Inv-loop μ-loop
 returns c =
-    let a = c .before .before .before .before .args in
+    let a = start-before-loop c .args in
     let l = c .before .loop in
     l .inv .2 ∙ ap (put (a .out .now) (a .at)) (take-all (l .k) (a .words .now) (omega arith))
 
