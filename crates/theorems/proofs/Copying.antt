@@ -1,5 +1,5 @@
 -- What the definitions of the tidy copy give: the work behind the theorems about it.
-use Prim.Native.Nat.{ℕ, _+_, _-_, _≤_}
+use Prim.Native.Nat.{ℕ, _+_, _-_, _≤_, _<_}
 use native.Mathlib.Omega.{arith}
 use mathlib.Core.Logic.{_↔_, _⊎_, inl, inr, ⊎-elim}
 use mathlib.Core.Path.{_≡_, sym, ap, _∙_}
@@ -26,6 +26,7 @@ use Rattle.tidy.specs.declared.Written as tidy
 use Rattle.tidy.specs.declared.Written.the-variants.{Bytes, Refused}
 use Rattle.tidy.proofs.Accepted.{accepted}
 use Rattle.tidy.proofs.Agreeing.{agree-iff}
+use Rattle.tidy.proofs.Bounds.{copy-bytes}
 use Rattle.tidy.proofs.Answers.{tidy-answered, tidy-written}
 use Rattle.tidy.proofs.Copies.{same-copy}
 use Rattle.tidy.proofs.Lengths.{copied-length}
@@ -71,8 +72,9 @@ left bytes output output' a e o =
 
 -- ---- the copy
 
-pub says-the-same : (I : Instance) → WellFormed I → Said I → ((k : Sheet) × (reading (tidied I) ≡ Accepted k)) × (instance (tidied I) ≡ I)
-says-the-same I W S = ((_, accepted I W (S .root-parent)), same-copy I W S)
+pub says-the-same : (I : Instance) → WellFormed I → Said I →
+    ((k : Sheet) × (reading (tidied I) ≡ Accepted k)) × (instance (tidied I) ≡ I) × ((n : ℕ) → getD (tidied I) n 0 < 256)
+says-the-same I W S = ((_, accepted I W (S .root-parent)), same-copy I W S, copy-bytes I W (S .root-parent))
 
 -- a call that answers by the instance alone, once a sheet is accepted, answers for the copy as for the sheet
 module _ (bytes : List ℕ) (h : Sheet) (reads : reading bytes ≡ Accepted h) where
@@ -82,7 +84,7 @@ module _ (bytes : List ℕ) (h : Sheet) (reads : reading bytes ≡ Accepted h) w
   abbrev copy : List ℕ
   copy = tidied I
 
-  pub same : ((k : Sheet) × (reading copy ≡ Accepted k)) × (instance copy ≡ I)
+  pub same : ((k : Sheet) × (reading copy ≡ Accepted k)) × (instance copy ≡ I) × ((n : ℕ) → getD copy n 0 < 256)
   same = says-the-same I (well-formed bytes h reads) (said bytes h reads)
 
   pub same-planned : (output costs choices : ℕ) → planned copy output costs choices ≡ planned bytes output costs choices

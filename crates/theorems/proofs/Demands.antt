@@ -14,7 +14,8 @@ use mathlib.Core.Logic.{_↔_, _⊎_, inl, inr}
 use mathlib.Core.Path.{_≡_, refl, ap, _∙_}
 use mathlib.Core.Bool.{true}
 use mathlib.Core.List.{List}
-use lib.ListN.{length, take}
+use lib.ListN.{length, take, getD}
+use Rattle.sheet.specs.Limits.{max-services, max-cabinets, max-streams, max-pairs}
 use Rattle.sheet.specs.Reading as reader
 use Rattle.sheet.specs.Reading.{reading}
 use Rattle.sheet.specs.Instance.{Instance, WellFormed, instance}
@@ -45,13 +46,13 @@ use Rattle.planner.specs.Lent.{table-after, OutputAfter}
 use Rattle.planner.specs.declared.Planned.{Planned}
 use Rattle.planner.specs.declared.Planned.the-variants.{Plan, Refused}
 use Rattle.planner.proofs.Order.{plan-first, plan-order}
-use Rattle.tidy.specs.Copy.{tidied}
+use Rattle.tidy.specs.Copy.{length-with, tidied}
 use Rattle.tidy.specs.Answers as tidy
 use Rattle.tidy.specs.Answers.{tidy-answer, output-after}
 use Rattle.tidy.specs.Agree.{Agree}
 use Rattle.tidy.specs.declared.Written as copies
 use Rattle.tidy.specs.declared.Written.the-variants as sheets
-use Rattle.tidy.proofs.Answers.{tidy-first, tidy-order}
+use Rattle.tidy.proofs.Answers.{tidy-first, tidy-order, room-iff, copy-longest}
 use Rattle.theorems.proofs.Copying as copying
 use Rattle.theorems.proofs.Planning as planning
 use Rattle.theorems.specs.Promised.{Given, Maps, NoneCheaper, Best, Left, SheetLeft}
@@ -219,14 +220,23 @@ pub tidy-memory :
     SheetLeft (tidied (instance bytes)) a output output'
 tidy-memory = copying.left
 
--- The instance of every sheet that the reader accepts is well formed and says nothing but the sheet's records; and for every such instance the
--- copy is accepted and says the same instance. The theorems below follow from these two.
+-- On every sheet that the reader accepts 21 is given exactly when the output is shorter than the copy; no copy is longer than one with as many
+-- records of each kind as a sheet may have.
+pub tidy-room :
+    (bytes : List ℕ) (h : Sheet) → reading bytes ≡ readings.Accepted h →
+    ((output : ℕ) → (tidy.number (tidy-answer bytes output) ≡ 21) ↔ (output < length (tidied (instance bytes))))
+    × (length (tidied (instance bytes)) ≤ length-with max-services max-cabinets max-streams max-pairs)
+tidy-room bytes h reads = (room-iff bytes h reads, copy-longest (instance bytes) (well-formed bytes h reads))
+
+-- The instance of every sheet that the reader accepts is well formed and has nothing in it but the sheet's records; and for every such instance
+-- the copy is made of bytes, is accepted and says the same instance. The theorems below follow from these two.
 pub instance-said :
     (bytes : List ℕ) (h : Sheet) → reading bytes ≡ readings.Accepted h → WellFormed (instance bytes) × Said (instance bytes)
 instance-said bytes h reads = (well-formed bytes h reads, said bytes h reads)
 
 pub copy-says-the-same :
-    (I : Instance) → WellFormed I → Said I → ((k : Sheet) × (reading (tidied I) ≡ readings.Accepted k)) × (instance (tidied I) ≡ I)
+    (I : Instance) → WellFormed I → Said I →
+    ((k : Sheet) × (reading (tidied I) ≡ readings.Accepted k)) × (instance (tidied I) ≡ I) × ((n : ℕ) → getD (tidied I) n 0 < 256)
 copy-says-the-same = copying.says-the-same
 
 -- Two accepted sheets have equal copies exactly when their records agree, barred pairs compared as a set.

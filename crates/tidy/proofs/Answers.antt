@@ -1,16 +1,17 @@
 -- Laws of the answers of the call that writes a copy: the numbers of its refusals, their groups and their order, and what is written.
-use Prim.Native.Nat.{ℕ, zero, suc, _≤_}
+use Prim.Native.Nat.{ℕ, zero, suc, _≤_, _<_}
 use native.Mathlib.Omega.{arith}
-use mathlib.Core.Logic.{_⊎_, inl, inr}
+use mathlib.Core.Logic.{_↔_, _⊎_, inl, inr}
 use mathlib.Core.Path.{_≡_, refl, sym, ap, _∙_}
-use mathlib.Core.Bool.{Bool, true, false}
+use mathlib.Core.Bool.{Bool, true, false, cond}
 use mathlib.Core.List.{List, [], _∷_, _++_}
 use lib.Dec.{ltb}
 use lib.ListN.{length, drop, length-append}
-use borrow.Author.Tests.{ltb-false}
+use borrow.Author.Tests.{ltb-true, ltb-false}
 use Rattle.sheet.specs.Reading as reader
 use Rattle.sheet.specs.Reading.{reading}
-use Rattle.sheet.specs.Instance.{instance}
+use Rattle.sheet.specs.Limits.{max-services, max-cabinets, max-streams, max-pairs}
+use Rattle.sheet.specs.Instance.{Instance, WellFormed, instance}
 use Rattle.sheet.specs.Refusals.{one-of, first-applying, refusal, number-of, giving, in-order}
 use Rattle.sheet.specs.declared.Sheet.{Sheet}
 use Rattle.sheet.specs.declared.Refusal.{Refusal}
@@ -18,10 +19,12 @@ use Rattle.sheet.specs.declared.Reading.{Reading}
 use Rattle.sheet.specs.declared.Reading.the-variants as readings
 use Rattle.sheet.proofs.Groups.{number-refusal, own-group, reading-group, one-of-left, first-listed, reading-number}
 use Rattle.sheet.proofs.Order.{after-reader}
-use Rattle.tidy.specs.Copy.{copy-length, tidied}
+use Rattle.tidy.specs.Copy.{length-with, pair-count, copy-length, tidied}
 use Rattle.tidy.specs.Answers.{number, room-rules, all-rules, tidy-numbers, given, written, answered, tidy-answer, output-after}
 use Rattle.tidy.specs.declared.Written.{Written}
 use Rattle.tidy.specs.declared.Written.the-variants.{Bytes, Refused}
+use Rattle.tidy.proofs.Barred.{pairs-most}
+use Rattle.tidy.proofs.Fourth.{size-most, some-size}
 use Rattle.tidy.proofs.Lengths.{copied-length}
 
 -- ---- every answer
@@ -67,6 +70,41 @@ tidy-first bytes n =
 pub tidy-order : (bytes : List ℕ) (n : ℕ) → in-order giving (all-rules bytes n) ≡ true
 unfolding reader.rules in-order
 tidy-order bytes n = refl
+
+-- ---- the room for a copy
+
+-- 21 is given exactly where the output is shorter than the copy
+pub room-iff : (bytes : List ℕ) (h : Sheet) → reading bytes ≡ readings.Accepted h → (n : ℕ) →
+    (number (tidy-answer bytes n) ≡ 21) ↔ (n < length (tidied (instance bytes)))
+unfolding tidy-answer answered written first-applying
+room-iff bytes h reads n = go (ltb n size) refl
+  where
+    size : ℕ
+    size = copy-length (instance bytes)
+
+    told : number (tidy-answer bytes n) ≡ cond (ltb n size) 21 0
+    told = ap (λ (r : Reading). number (answered r (instance bytes) n)) reads ∙ own-number (first-applying (room-rules size n)) size
+
+    go : (t : Bool) → ltb n size ≡ t → (number (tidy-answer bytes n) ≡ 21) ↔ (n < length (tidied (instance bytes)))
+    go true q = (λ e. omega (arith, ltb-true n size q, copied-length (instance bytes)), λ l. told ∙ ap (λ (t : Bool). cond t 21 0) q)
+    go false q = (
+      λ e. absurd (let z : _≡_ {A = ℕ} 21 0 = sym e ∙ told ∙ ap (λ (t : Bool). cond t 21 0) q in omega arith),
+      λ l. absurd (omega (arith, ltb-false n size q, copied-length (instance bytes))),
+    )
+
+-- no copy is longer than one with as many records of each kind as a sheet may have
+pub copy-longest : (I : Instance) → WellFormed I → length (tidied I) ≤ length-with max-services max-cabinets max-streams max-pairs
+copy-longest I W =
+    omega (
+      arith,
+      copied-length I,
+      size-most (pair-count I),
+      pairs-most I (W .services) (W .cabinets),
+      some-size max-pairs (omega arith),
+      W .services,
+      W .cabinets,
+      W .streams,
+    )
 
 -- ---- where a copy was written
 

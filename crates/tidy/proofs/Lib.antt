@@ -6,6 +6,7 @@ mod Fourth
 pub mod Lengths
 mod Whole
 mod Fields
+pub mod Bounds
 pub mod Accepted
 pub mod Copies
 pub mod Agreeing
