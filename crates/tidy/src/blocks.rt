@@ -11,8 +11,7 @@ ghost use Rattle.tidy.specs.Inner.Put.{put};
 ghost use Rattle.tidy.specs.Inner.Limited.{Limited};
 use crate::places::cabinets_from;
 use crate::places::fourth_from;
-use crate::places::fourth_size;
-use crate::places::streams_end;
+use crate::places::length_with;
 use crate::places::streams_from;
 use crate::words::put_words;
 use crate::words::short;
@@ -25,7 +24,6 @@ pub(crate) fn put_header(out: &mut [u8], r: usize, s: usize, q: usize, pairs: us
     requires { ⌜ (header-size ≤ length (now out)) × Limited r s q × (pairs ≤ max-pairs) ⌝ }
     ensures { λ u. ⌜ now (out .exit) ≡ put (now (out .entry)) 0 (header-words r s q pairs) ⌝ }
 {
-    let end = streams_end(r, s, q) + fourth_size(pairs);
     let words = [
         short(r),
         short(s),
@@ -33,7 +31,7 @@ pub(crate) fn put_header(out: &mut [u8], r: usize, s: usize, q: usize, pairs: us
         short(Sheet::HEADER),
         short(cabinets_from(r)),
         short(streams_from(r, s)),
-        short(end),
+        short(length_with(r, s, q, pairs)),
         short(fourth_from(r, s, q, pairs)),
     ];
     put_words(out, 0, &words[..]);

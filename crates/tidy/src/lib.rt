@@ -26,7 +26,7 @@ use blocks::put_streams;
 use pairs::count_pairs;
 use pairs::put_fourth;
 use places::cabinets_from;
-use places::fourth_size;
+use places::length_with;
 use places::streams_end;
 use places::streams_from;
 
@@ -66,7 +66,7 @@ fn copy(records: Records, output: &mut [u8]) -> Written
     ensures output { λ a. ⌜ now (output .exit) ≡ output-after (tidied (told records)) a (now (output .entry)) ⌝ }
 {
     let pairs = count_pairs(records);
-    let end = streams_end(records.services, records.cabinets, records.streams) + fourth_size(pairs);
+    let end = length_with(records.services, records.cabinets, records.streams, pairs);
     if output.len() < end {
         return Written::Refused(Refusal::Lender(21));
     }

@@ -13,6 +13,7 @@ use records::Records;
 use records::is_in_set;
 use sheet::Sheet;
 
+// 1 where the test passes, else 0.
 fn count_if(test: bool) -> usize
     ensures { λ n. ⌜ n ≡ only test 1 ⌝ }
 {

@@ -1,10 +1,11 @@
 // Where the blocks of a copy start and end, for counts within the limits of a sheet.
 ghost use mathlib.Core.Path.{_≡_};
-ghost use Prim.Native.Nat.{_≤_};
+ghost use Prim.Native.Nat.{_≤_, _<_};
 ghost use lib.Dec.{ltb};
 ghost use Rattle.finite.specs.Below.{only};
 ghost use Rattle.sheet.specs.Limits.{max-services, max-cabinets, max-streams, max-pairs};
-ghost use Rattle.tidy.specs.Copy.{cabinets-from, streams-from, streams-end, fourth-size, fourth-from};
+ghost use Rattle.tidy.specs.Copy.{cabinets-from, streams-from, streams-end, fourth-size, fourth-from, length-with};
+ghost use Rattle.tidy.specs.Inner.Limited.{Limited};
 use sheet::Sheet;
 
 pub(crate) fn cabinets_from(r: usize) -> usize
@@ -39,7 +40,7 @@ fn with_pairs(pairs: usize, n: usize) -> usize
 }
 
 // The bytes of the fourth block.
-pub(crate) fn fourth_size(pairs: usize) -> usize
+fn fourth_size(pairs: usize) -> usize
     requires { ⌜ pairs ≤ max-pairs ⌝ }
     ensures { λ n. ⌜ n ≡ fourth-size pairs ⌝ }
 {
@@ -52,4 +53,12 @@ pub(crate) fn fourth_from(r: usize, s: usize, q: usize, pairs: usize) -> usize
     ensures { λ n. ⌜ n ≡ fourth-from r s q pairs ⌝ }
 {
     with_pairs(pairs, streams_end(r, s, q))
+}
+
+// The length of a copy, which is a word.
+pub(crate) fn length_with(r: usize, s: usize, q: usize, pairs: usize) -> usize
+    requires { ⌜ Limited r s q × (pairs ≤ max-pairs) ⌝ }
+    ensures { λ n. ⌜ (n ≡ length-with r s q pairs) × (n < 65536) ⌝ }
+{
+    streams_end(r, s, q) + fourth_size(pairs)
 }

@@ -1,63 +1,47 @@
 -- `put_header` meets its contract.
-use Prim.Native.Nat.{ℕ, _+_}
 use native.Mathlib.Omega.{arith}
-use mathlib.Core.Path.{ap₂, _∙_}
+use mathlib.Core.Path.{_∙_}
 use borrow.Author.Needs.{needs}
 use mathlib.Core.List.{[], _∷_}
 use Rattle.tidy.specs.Inner.Put.{put}
-use Rattle.tidy.proofs.Fourth.{size-most, offset-most}
+use Rattle.tidy.proofs.Fourth.{offset-most}
 use borrow.Author.Needs.{needs}
 use Rattle.tidy.proofs.blocks.put_header.Statement.{statement}
 use Rattle.tidy.proofs.blocks.put_header.Tie as tie
 
 -- the nodes of the function that its needs reach back to
-abbrev start-before-fourth-size : tie.After-fourth-size → tie.Start
-start-before-fourth-size c = c .before .before .before
-
-abbrev start-before-short6 : tie.After-short6 → tie.Start
-start-before-short6 c = c .before .before .before .before .before .before .before .before .before .before .before
-
-abbrev streams-end-before-short6 : tie.After-short6 → tie.After-streams-end
-streams-end-before-short6 c = c .before .before .before .before .before .before .before .before .before
-
-abbrev fourth-size-before-short6 : tie.After-short6 → tie.After-fourth-size
-fourth-size-before-short6 c = c .before .before .before .before .before .before .before .before
-
 abbrev start-before-fourth-from : tie.After-fourth-from → tie.Start
-start-before-fourth-from c = c .before .before .before .before .before .before .before .before .before .before .before .before .before
+start-before-fourth-from c = c .before .before .before .before .before .before .before .before .before .before .before .before
 
 abbrev short-before-slice-known2 : tie.After-slice-known2 → tie.After-short
-short-before-slice-known2 c = c .before .before .before .before .before .before .before .before .before .before .before .before .before .before .before
+short-before-slice-known2 c = c .before .before .before .before .before .before .before .before .before .before .before .before .before .before .before .before
 
 abbrev short2-before-slice-known2 : tie.After-slice-known2 → tie.After-short2
-short2-before-slice-known2 c = c .before .before .before .before .before .before .before .before .before .before .before .before .before .before
+short2-before-slice-known2 c = c .before .before .before .before .before .before .before .before .before .before .before .before .before .before .before
 
 abbrev short3-before-slice-known2 : tie.After-slice-known2 → tie.After-short3
-short3-before-slice-known2 c = c .before .before .before .before .before .before .before .before .before .before .before .before .before
+short3-before-slice-known2 c = c .before .before .before .before .before .before .before .before .before .before .before .before .before .before
 
 abbrev short4-before-slice-known2 : tie.After-slice-known2 → tie.After-short4
-short4-before-slice-known2 c = c .before .before .before .before .before .before .before .before .before .before .before .before
+short4-before-slice-known2 c = c .before .before .before .before .before .before .before .before .before .before .before .before .before
 
 abbrev short5-before-slice-known2 : tie.After-slice-known2 → tie.After-short5
-short5-before-slice-known2 c = c .before .before .before .before .before .before .before .before .before .before
+short5-before-slice-known2 c = c .before .before .before .before .before .before .before .before .before .before .before
 
 abbrev cabinets-from-before-slice-known2 : tie.After-slice-known2 → tie.After-cabinets-from
-cabinets-from-before-slice-known2 c = c .before .before .before .before .before .before .before .before .before .before .before
+cabinets-from-before-slice-known2 c = c .before .before .before .before .before .before .before .before .before .before .before .before
 
 abbrev short6-before-slice-known2 : tie.After-slice-known2 → tie.After-short6
-short6-before-slice-known2 c = c .before .before .before .before .before .before .before .before
+short6-before-slice-known2 c = c .before .before .before .before .before .before .before .before .before
 
 abbrev streams-from-before-slice-known2 : tie.After-slice-known2 → tie.After-streams-from
-streams-from-before-slice-known2 c = c .before .before .before .before .before .before .before .before .before
+streams-from-before-slice-known2 c = c .before .before .before .before .before .before .before .before .before .before
 
 abbrev short7-before-slice-known2 : tie.After-slice-known2 → tie.After-short7
 short7-before-slice-known2 c = c .before .before .before .before .before .before .before
 
-abbrev streams-end-before-slice-known2 : tie.After-slice-known2 → tie.After-streams-end
-streams-end-before-slice-known2 c = c .before .before .before .before .before .before .before .before .before .before .before .before .before .before .before .before .before
-
-abbrev fourth-size-before-slice-known2 : tie.After-slice-known2 → tie.After-fourth-size
-fourth-size-before-slice-known2 c = c .before .before .before .before .before .before .before .before .before .before .before .before .before .before .before .before
+abbrev length-with-before-slice-known2 : tie.After-slice-known2 → tie.After-length-with
+length-with-before-slice-known2 c = c .before .before .before .before .before .before .before .before
 
 abbrev short8-before-slice-known2 : tie.After-slice-known2 → tie.After-short8
 short8-before-slice-known2 c = c .before .before .before .before .before
@@ -66,16 +50,7 @@ abbrev fourth-from-before-slice-known2 : tie.After-slice-known2 → tie.After-fo
 fourth-from-before-slice-known2 c = c .before .before .before .before .before .before
 
 abbrev start-before-slice-known2 : tie.After-slice-known2 → tie.Start
-start-before-slice-known2 c = c .before .before .before .before .before .before .before .before .before .before .before .before .before .before .before .before .before .before .before
-
-streams-end-requires : tie.Need-streams-end-requires
-streams-end-requires c κs = search needs
-
-fourth-size-requires : tie.Need-fourth-size-requires
-fourth-size-requires c κs = search needs
-
-add-end : tie.Need-add-end
-add-end c = omega (arith, size-most (start-before-fourth-size c .args .pairs), c .before .streams-end .ensures, c .fourth-size .ensures, start-before-fourth-size c .pre .1 .services, start-before-fourth-size c .pre .1 .cabinets, start-before-fourth-size c .pre .1 .streams, start-before-fourth-size c .pre .2)
+start-before-slice-known2 c = c .before .before .before .before .before .before .before .before .before .before .before .before .before .before .before .before .before .before
 
 short-requires : tie.Need-short-requires
 short-requires c κs = search needs
@@ -101,8 +76,11 @@ streams-from-requires c κs = search needs
 short-requires-6 : tie.Need-short-requires-6
 short-requires-6 c κs = search needs
 
+length-with-requires : tie.Need-length-with-requires
+length-with-requires c κs = search needs
+
 short-requires-7 : tie.Need-short-requires-7
-short-requires-7 c κs = omega (arith, size-most (start-before-short6 c .args .pairs), streams-end-before-short6 c .streams-end .ensures, fourth-size-before-short6 c .fourth-size .ensures, start-before-short6 c .pre .1 .services, start-before-short6 c .pre .1 .cabinets, start-before-short6 c .pre .1 .streams, start-before-short6 c .pre .2)
+short-requires-7 c κs = search needs
 
 fourth-from-requires : tie.Need-fourth-from-requires
 fourth-from-requires c κs = search needs
@@ -129,7 +107,7 @@ returns c =
     let w3 = short4-before-slice-known2 c .short4 .ensures in
     let w4 = short5-before-slice-known2 c .short5 .ensures ∙ cabinets-from-before-slice-known2 c .cabinets-from .ensures in
     let w5 = short6-before-slice-known2 c .short6 .ensures ∙ streams-from-before-slice-known2 c .streams-from .ensures in
-    let w6 = short7-before-slice-known2 c .short7 .ensures ∙ ap₂ (λ (m n : ℕ). m + n) (streams-end-before-slice-known2 c .streams-end .ensures) (fourth-size-before-slice-known2 c .fourth-size .ensures) in
+    let w6 = short7-before-slice-known2 c .short7 .ensures ∙ length-with-before-slice-known2 c .length-with .ensures .0 in
     let w7 = short8-before-slice-known2 c .short8 .ensures ∙ fourth-from-before-slice-known2 c .fourth-from .ensures in
     c .before .before .put-words .ensures ∙ (λ k. put (start-before-slice-known2 c .args .out .now) 0 (w0 k ∷ w1 k ∷ w2 k ∷ w3 k ∷ w4 k ∷ w5 k ∷ w6 k ∷ w7 k ∷ []))
 
@@ -137,9 +115,6 @@ pub put-header-spec : {M : Type 1} → statement M
 put-header-spec =
     tie.close
     (tie.spec
-    streams-end-requires
-    fourth-size-requires
-    add-end
     short-requires
     short-requires-2
     short-requires-3
@@ -148,6 +123,7 @@ put-header-spec =
     short-requires-5
     streams-from-requires
     short-requires-6
+    length-with-requires
     short-requires-7
     fourth-from-requires
     short-requires-8

@@ -59,8 +59,7 @@ slice-write-out-2 c =
     let p = start-before-high c .pre in
     let l = at-loop-before-high c .loop in
     let m : length (set (l .out) (a .at + 2 * l .k) (c .before .low .result)) ≡ length (l .out) = length-set (l .out) (a .at + 2 * l .k) (c .before .low .result) in
-    let h : a .at + 2 * l .k + 1 < length (set (l .out) (a .at + 2 * l .k) (c .before .low .result)) = omega (arith, p, l .inv .1) in
-    h
+    omega (arith, m, p, l .inv .1)
 
 add-k : tie.Need-add-k Inv-loop μ-loop
 add-k c = search needs
