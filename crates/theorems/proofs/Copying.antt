@@ -10,7 +10,10 @@ use Rattle.sheet.specs.Refusals.{first-applying}
 use Rattle.sheet.specs.Reading.{reading}
 use Rattle.sheet.specs.Instance.{Instance, WellFormed, instance}
 use Rattle.sheet.specs.Said.{Said}
+use Rattle.sheet.specs.Records.{pair-record}
 use Rattle.sheet.specs.declared.Sheet.{Sheet}
+use Rattle.sheet.specs.declared.Pair.{Pair}
+use Rattle.sheet.specs.declared.PairRecord.the-variants as pairs
 use Rattle.sheet.specs.declared.Refusal.{Refusal}
 use Rattle.sheet.specs.declared.Reading.{Reading}
 use Rattle.sheet.specs.declared.Reading.the-variants.{Accepted}
@@ -29,6 +32,8 @@ use Rattle.tidy.proofs.Agreeing.{agree-iff}
 use Rattle.tidy.proofs.Bounds.{copy-bytes}
 use Rattle.tidy.proofs.Answers.{tidy-answered, tidy-written}
 use Rattle.tidy.proofs.Copies.{same-copy}
+use Rattle.tidy.proofs.Fields.{tidy-sheet}
+use Rattle.tidy.proofs.Rising.{copy-rises}
 use Rattle.tidy.proofs.Lengths.{copied-length}
 use Rattle.theorems.specs.Promised.{Given, Written, SheetLeft}
 
@@ -75,6 +80,19 @@ left bytes output output' a e o =
 pub says-the-same : (I : Instance) → WellFormed I → Said I →
     ((k : Sheet) × (reading (tidied I) ≡ Accepted k)) × (instance (tidied I) ≡ I) × ((n : ℕ) → getD (tidied I) n 0 < 256)
 says-the-same I W S = ((_, accepted I W (S .root-parent)), same-copy I W S, copy-bytes I W (S .root-parent))
+
+-- each pair of a copy comes before the next
+pub rises : (I : Instance) → WellFormed I → Said I → (k : Sheet) → reading (tidied I) ≡ Accepted k → (n : ℕ) (p q : Pair) →
+    pair-record k (tidied I) n ≡ pairs.Given p → pair-record k (tidied I) (n + 1) ≡ pairs.Given q →
+    (p .service < q .service) ⊎ ((p .service ≡ q .service) × (p .cabinet < q .cabinet))
+rises I W S k e n p q f g =
+    let h : k ≡ tidy-sheet I = its-sheet (sym e ∙ accepted I W (S .root-parent)) in
+    copy-rises I W (S .root-parent) n p q
+    (ap (λ (x : Sheet). pair-record x (tidied I) n) (sym h) ∙ f)
+    (ap (λ (x : Sheet). pair-record x (tidied I) (n + 1)) (sym h) ∙ g)
+  where
+    its-sheet : {h k : Sheet} → Accepted h ≡ Accepted k → h ≡ k
+    its-sheet e = cc
 
 -- a call that answers by the instance alone, once a sheet is accepted, answers for the copy as for the sheet
 module _ (bytes : List ℕ) (h : Sheet) (reads : reading bytes ≡ Accepted h) where

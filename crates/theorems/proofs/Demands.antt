@@ -9,7 +9,7 @@
 --                                                                               crates/tidy/src/lib.rt
 -- and the C entry points `gz_read`, `gz_check`, `gz_plan` and `gz_tidy` have the same clauses in crates/gazrieksne/src. What the program prints is
 -- `printed` in crates/report/specs/Text.antt, by the contract of `report::respond`.
-use Prim.Native.Nat.{ℕ, _-_, _*_, _^_, _≤_, _<_}
+use Prim.Native.Nat.{ℕ, _+_, _-_, _*_, _^_, _≤_, _<_}
 use mathlib.Core.Logic.{_↔_, _⊎_, inl, inr}
 use mathlib.Core.Path.{_≡_, refl, ap, _∙_}
 use mathlib.Core.Bool.{true}
@@ -20,8 +20,11 @@ use Rattle.sheet.specs.Reading as reader
 use Rattle.sheet.specs.Reading.{reading}
 use Rattle.sheet.specs.Instance.{Instance, WellFormed, instance}
 use Rattle.sheet.specs.Said.{Said}
+use Rattle.sheet.specs.Records.{pair-record}
 use Rattle.sheet.specs.Refusals.{number-of, giving, first-of, in-order}
 use Rattle.sheet.specs.declared.Sheet.{Sheet}
+use Rattle.sheet.specs.declared.Pair.{Pair}
+use Rattle.sheet.specs.declared.PairRecord.the-variants as pairs
 use Rattle.sheet.specs.declared.Refusal.{Refusal}
 use Rattle.sheet.specs.declared.Reading.the-variants as readings
 use Rattle.sheet.proofs.Promises.{well-formed, said}
@@ -238,6 +241,13 @@ pub copy-says-the-same :
     (I : Instance) → WellFormed I → Said I →
     ((k : Sheet) × (reading (tidied I) ≡ readings.Accepted k)) × (instance (tidied I) ≡ I) × ((n : ℕ) → getD (tidied I) n 0 < 256)
 copy-says-the-same = copying.says-the-same
+
+-- In the copy each barred pair comes before the next: its service is lower, or the same and its cabinet lower. So none stands twice.
+pub copy-pairs-rise :
+    (I : Instance) → WellFormed I → Said I → (k : Sheet) → reading (tidied I) ≡ readings.Accepted k →
+    (n : ℕ) (p q : Pair) → pair-record k (tidied I) n ≡ pairs.Given p → pair-record k (tidied I) (n + 1) ≡ pairs.Given q →
+    (p .service < q .service) ⊎ ((p .service ≡ q .service) × (p .cabinet < q .cabinet))
+copy-pairs-rise = copying.rises
 
 -- Two accepted sheets have equal copies exactly when their records agree, barred pairs compared as a set.
 pub equal-copies :

@@ -157,7 +157,7 @@ module _ (I : Instance) (W : WellFormed I) (root-parent : I .parent 0 ≡ 65535)
           rw (no-offset (I .r) (I .s) (I .q) (pair-count I) z) refl
 
   -- pair n of the words is a service and a cabinet that are there
-  in-range : (n : ℕ) → n < pair-count I → (getD (pair-words I) (2 * n) 0 < I .r) × (getD (pair-words I) (2 * n + 1) 0 < I .s)
+  pub in-range : (n : ℕ) → n < pair-count I → (getD (pair-words I) (2 * n) 0 < I .r) × (getD (pair-words I) (2 * n + 1) 0 < I .s)
   unfolding pair-among
   in-range n k =
       let i = getD (pair-words I) (2 * n) 0 in

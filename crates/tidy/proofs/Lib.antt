@@ -5,9 +5,10 @@ mod Barred
 mod Fourth
 pub mod Lengths
 mod Whole
-mod Fields
+pub mod Fields
 pub mod Bounds
 pub mod Accepted
 pub mod Copies
+pub mod Rising
 pub mod Agreeing
 pub mod Answers
