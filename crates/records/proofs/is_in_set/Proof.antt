@@ -1,9 +1,8 @@
--- `is_in_set` meets its contract.
+-- `is_in_set` meets its contract: the members of the number that `field` gives.
 use Prim.Native.Nat.{ℕ}
 use mathlib.Core.Path.{ap, _∙_}
 use borrow.Author.Needs.{needs}
 use Rattle.subsets.specs.Sets.{has}
-use borrow.Author.Needs.{needs}
 use Rattle.records.proofs.is_in_set.Statement.{statement}
 use Rattle.records.proofs.is_in_set.Tie as tie
 

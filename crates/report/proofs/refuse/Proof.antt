@@ -1,10 +1,9 @@
--- `refuse` meets its contract.
+-- `refuse` meets its contract: the text is the one line.
 use native.Mathlib.Omega.{arith}
 use mathlib.Core.Path.{sym, ap, _∙_}
 use borrow.Author.Needs.{needs}
 use lib.Seq.{length-take-le}
 use Rattle.report.specs.Text.{refusal-line}
-use borrow.Author.Needs.{needs}
 use Rattle.report.proofs.refuse.Statement.{statement}
 use Rattle.report.proofs.refuse.Tie as tie
 

@@ -1,4 +1,4 @@
--- `copy` meets its contract.
+-- `copy` meets its contract: 21 where the output is too short, else the copy stands at its front.
 use Prim.Native.Nat.{ℕ, _≤_}
 use native.Mathlib.Omega.{arith}
 use mathlib.Core.Path.{_≡_, refl, sym, ap, _∙_}
@@ -13,7 +13,6 @@ use Rattle.tidy.specs.Answers.{output-after}
 use Rattle.tidy.specs.declared.Written.the-variants.{Bytes}
 use Rattle.tidy.proofs.Barred.{pairs-most}
 use Rattle.tidy.proofs.Whole.{at-front, too-short, long-enough}
-use borrow.Author.Needs.{needs}
 use Rattle.tidy.proofs.copy.Statement.{statement}
 use Rattle.tidy.proofs.copy.Tie as tie
 

@@ -1,4 +1,4 @@
--- `tidy` meets its contract.
+-- `tidy` meets its contract: the reader's refusal is handed on, and an accepted sheet is copied.
 use mathlib.Core.Path.{_≡_, refl, sym, ap, _∙_, subst}
 use borrow.Author.Needs.{needs}
 use lib.ListN.{length}
@@ -8,7 +8,6 @@ use Rattle.sheet.proofs.Promises.{well-formed}
 use Rattle.tidy.specs.Copy.{copy-length, tidied}
 use Rattle.tidy.specs.Answers.{written, answered, tidy-answer, output-after}
 use Rattle.tidy.specs.Inner.Limited.{Limited}
-use borrow.Author.Needs.{needs}
 use Rattle.tidy.proofs.tidy.Statement.{statement}
 use Rattle.tidy.proofs.tidy.Tie as tie
 

@@ -1,4 +1,4 @@
--- `write` meets its contract.
+-- `write` meets its contract: the blocks are put one behind the other.
 use Prim.Native.Nat.{ℕ}
 use native.Mathlib.Omega.{arith}
 use mathlib.Core.Path.{_≡_, ap, _∙_}
@@ -7,7 +7,6 @@ use Rattle.records.specs.Told.{told}
 use Rattle.tidy.specs.Copy.{header-words, pair-count, fourth-size}
 use Rattle.tidy.specs.Inner.Put.{put}
 use Rattle.tidy.proofs.Whole.{all-put}
-use borrow.Author.Needs.{needs}
 use Rattle.tidy.proofs.write.Statement.{statement}
 use Rattle.tidy.proofs.write.Tie as tie
 

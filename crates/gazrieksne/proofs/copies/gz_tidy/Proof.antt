@@ -1,4 +1,4 @@
--- `gz_tidy` meets its contract.
+-- `gz_tidy` meets its contract: the promises of `tidy::tidy`, with its answer as numbers.
 use mathlib.Core.Path.{ap, _∙_}
 use borrow.Author.Needs.{needs}
 use Rattle.sheet.specs.Instance.{instance}
@@ -6,7 +6,6 @@ use Rattle.tidy.specs.declared.Written.{Written}
 use Rattle.tidy.specs.Copy.{tidied}
 use Rattle.tidy.specs.Answers.{number, output-after}
 use Rattle.gazrieksne.specs.Copies.{written-answer}
-use borrow.Author.Needs.{needs}
 use Rattle.gazrieksne.proofs.copies.gz_tidy.Statement.{statement}
 use Rattle.gazrieksne.proofs.copies.gz_tidy.Tie as tie
 

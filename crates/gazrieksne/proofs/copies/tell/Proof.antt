@@ -1,9 +1,8 @@
--- `tell` meets its contract.
+-- `tell` meets its contract, for a length and for a refusal.
 use mathlib.Core.Path.{sym, ap, _∙_}
 use borrow.Author.Needs.{needs}
 use Rattle.tidy.specs.Answers.{number}
 use Rattle.gazrieksne.specs.Copies.{written-answer}
-use borrow.Author.Needs.{needs}
 use Rattle.gazrieksne.proofs.copies.tell.Statement.{statement}
 use Rattle.gazrieksne.proofs.copies.tell.Tie as tie
 

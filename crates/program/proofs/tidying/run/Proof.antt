@@ -1,9 +1,8 @@
--- `run` meets its contract.
+-- `run` meets its contract: the length that was written fits the buffer.
 use mathlib.Core.Path.{sym}
 use borrow.Author.Needs.{needs}
 use lib.Seq.{length-take-le}
 use Rattle.tidy.proofs.Answers.{written-fits}
-use borrow.Author.Needs.{needs}
 use Rattle.program.proofs.tidying.run.Statement.{statement}
 use Rattle.program.proofs.tidying.run.Tie as tie
 

@@ -6,7 +6,6 @@ use borrow.Author.Needs.{needs}
 use borrow.Author.Tests.{le-ltb}
 use Rattle.records.specs.Told.{told}
 use Rattle.records.proofs.Bars.{set-barred}
-use borrow.Author.Needs.{needs}
 use Rattle.records.proofs.Records.is_barred.Statement.{statement}
 use Rattle.records.proofs.Records.is_barred.Tie as tie
 

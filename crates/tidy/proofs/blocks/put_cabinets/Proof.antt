@@ -1,4 +1,4 @@
--- `put_cabinets` meets its contract.
+-- `put_cabinets` meets its contract. The invariant: the cabinets passed stand one behind the other.
 use Prim.Native.Nat.{ℕ, _+_, _-_, _*_, _≤_}
 use native.Mathlib.Omega.{arith}
 use mathlib.Core.Path.{_≡_, refl, ap, _∙_}

@@ -1,11 +1,10 @@
--- `put_header` meets its contract.
+-- `put_header` meets its contract: each number fits a word, and the words are those of the definition.
 use native.Mathlib.Omega.{arith}
 use mathlib.Core.Path.{_∙_}
 use borrow.Author.Needs.{needs}
 use mathlib.Core.List.{[], _∷_}
 use Rattle.tidy.specs.Inner.Put.{put}
 use Rattle.tidy.proofs.Fourth.{offset-most}
-use borrow.Author.Needs.{needs}
 use Rattle.tidy.proofs.blocks.put_header.Statement.{statement}
 use Rattle.tidy.proofs.blocks.put_header.Tie as tie
 

@@ -1,4 +1,4 @@
--- `put_services` meets its contract.
+-- `put_services` meets its contract. The invariant: the services passed stand one behind the other.
 use Prim.Native.Nat.{ℕ, _+_, _-_, _*_, _≤_}
 use native.Mathlib.Omega.{arith}
 use mathlib.Core.Path.{_≡_, refl, ap, _∙_}

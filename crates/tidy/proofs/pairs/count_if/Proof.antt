@@ -1,4 +1,4 @@
--- `count_if` meets its contract.
+-- `count_if` meets its contract, for both tests.
 use borrow.Author.Needs.{needs}
 use Rattle.finite.specs.Below.{only}
 use Rattle.tidy.proofs.pairs.count_if.Statement.{statement}

@@ -1,4 +1,4 @@
--- `count_pairs` meets its contract.
+-- `count_pairs` meets its contract. The invariant: the count is that of the services passed.
 use Prim.Native.Nat.{ℕ, _+_, _-_, _≤_}
 use native.Mathlib.Omega.{arith}
 use mathlib.Core.Path.{_≡_, refl, sym, ap, ap₂, _∙_}

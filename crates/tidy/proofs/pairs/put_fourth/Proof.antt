@@ -1,4 +1,4 @@
--- `put_fourth` meets its contract.
+-- `put_fourth` meets its contract: nothing without a pair, else the count and the pairs behind it.
 use Prim.Native.Nat.{ℕ, _+_}
 use native.Mathlib.Omega.{arith}
 use mathlib.Core.Path.{_≡_, sym, ap, _∙_}
@@ -10,7 +10,6 @@ use Rattle.tidy.specs.Copy.{pair-words, pair-count}
 use Rattle.tidy.specs.Inner.Put.{put}
 use Rattle.tidy.proofs.Fourth.{no-words, some-words, some-size}
 use Rattle.tidy.proofs.Put.{put-none, put-more, put-length}
-use borrow.Author.Needs.{needs}
 use Rattle.tidy.proofs.pairs.put_fourth.Statement.{statement}
 use Rattle.tidy.proofs.pairs.put_fourth.Tie as tie
 

@@ -1,4 +1,4 @@
--- `put_of_service` meets its contract.
+-- `put_of_service` meets its contract. The invariant: the pairs with the cabinets passed stand there, and the next place is behind them.
 use Prim.Native.Nat.{ℕ, _+_, _-_, _*_, _≤_, _<_}
 use native.Mathlib.Omega.{arith}
 use mathlib.Core.Path.{_≡_, refl, ap, ap₂, _∙_}

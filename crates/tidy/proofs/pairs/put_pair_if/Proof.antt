@@ -1,4 +1,4 @@
--- `put_pair_if` meets its contract.
+-- `put_pair_if` meets its contract: a barred pair is two words, any other none.
 use Prim.Native.Nat.{_+_, _*_}
 use native.Mathlib.Omega.{arith}
 use mathlib.Core.Path.{_≡_, sym, ap, _∙_}
@@ -9,7 +9,6 @@ use Rattle.finite.specs.Below.{only}
 use Rattle.tidy.specs.Copy.{pair-if}
 use Rattle.tidy.specs.Inner.Put.{put}
 use Rattle.tidy.proofs.Put.{put-none}
-use borrow.Author.Needs.{needs}
 use Rattle.tidy.proofs.pairs.put_pair_if.Statement.{statement}
 use Rattle.tidy.proofs.pairs.put_pair_if.Tie as tie
 

@@ -1,10 +1,9 @@
--- `fourth_from` meets its contract.
+-- `fourth_from` meets its contract: it is the definition, with the end of the streams reckoned.
 use mathlib.Core.Path.{ap, _∙_}
 use borrow.Author.Needs.{needs}
 use lib.Dec.{ltb}
 use Rattle.finite.specs.Below.{only}
 use Rattle.tidy.specs.Copy.{fourth-from}
-use borrow.Author.Needs.{needs}
 use Rattle.tidy.proofs.places.fourth_from.Statement.{statement}
 use Rattle.tidy.proofs.places.fourth_from.Tie as tie
 

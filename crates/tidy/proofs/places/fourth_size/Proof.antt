@@ -1,7 +1,6 @@
--- `fourth_size` meets its contract.
+-- `fourth_size` meets its contract: it is the definition.
 use borrow.Author.Needs.{needs}
 use Rattle.tidy.specs.Copy.{fourth-size}
-use borrow.Author.Needs.{needs}
 use Rattle.tidy.proofs.places.fourth_size.Statement.{statement}
 use Rattle.tidy.proofs.places.fourth_size.Tie as tie
 

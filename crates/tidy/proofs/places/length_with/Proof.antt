@@ -1,10 +1,9 @@
--- `length_with` meets its contract.
+-- `length_with` meets its contract: the sum is the definition's, and no sheet has more than the limits let it.
 use Prim.Native.Nat.{ℕ, _+_}
 use native.Mathlib.Omega.{arith}
 use mathlib.Core.Path.{ap₂}
 use borrow.Author.Needs.{needs}
 use Rattle.tidy.proofs.Fourth.{size-most}
-use borrow.Author.Needs.{needs}
 use Rattle.tidy.proofs.places.length_with.Statement.{statement}
 use Rattle.tidy.proofs.places.length_with.Tie as tie
 

@@ -1,4 +1,4 @@
--- `with_pairs` meets its contract.
+-- `with_pairs` meets its contract, without a pair and with some.
 use native.Mathlib.Omega.{arith}
 use mathlib.Core.Path.{refl}
 use borrow.Author.Tests.{lt-ltb, le-ltb}

@@ -1,3 +1,4 @@
+-- `put_words` meets its contract. The invariant: the words passed stand there, two bytes each.
 use Prim.Native.Nat.{ℕ, _≤_, _<_, _-_, _*_, _+_, _/_, _%_}
 use mathlib.Core.Path.{_≡_, refl, sym, ap, ap₂, _∙_}
 use mathlib.Core.List.{List}
