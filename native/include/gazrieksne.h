@@ -29,10 +29,12 @@
  * A plan
  * ------
  * A plan gives each service a cabinet. A stream runs along the only simple path between the
- * cabinets of its ends. The plan is valid when no service is on a cabinet that it is barred from,
- * and no cabinet holds, and no direction of a link carries, more demand than its capacity. Its cost
- * is demand times price, summed over the services (by their cabinets) and over each link of each
- * stream's path (by the direction taken).
+ * cabinets of its ends. It takes its demand of every direction of a link that it runs along, and,
+ * if its demand is above 0, 2 more for its framing; these sum up to the load of a direction. The
+ * plan is valid when no service is on a cabinet that it is barred from, no cabinet holds more
+ * demand than its capacity, and no direction of a link has a load above its capacity. Its cost is
+ * demand times price, summed over the services (by their cabinets) and over each link of each
+ * stream's path (by the direction taken); framing is not priced.
  *
  * What calls answer
  * -----------------
@@ -71,7 +73,7 @@
  *     14  a cabinet number is not below s
  *     20  a service is on a cabinet that it is barred from
  *     15  a cabinet is overfull
- *     16  a direction of a link is overfull
+ *     16  a direction of a link is overfull, framing counted
  *
  * No call returns 17: only the program gives it, for more bytes than it takes.
  *
