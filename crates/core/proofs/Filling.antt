@@ -28,6 +28,7 @@ use Rattle.rows.proofs.Paired.{key-is}
 use Rattle.core.specs.Sound.{sound}
 use Rattle.core.specs.Sums.{SumsOf}
 use Rattle.core.specs.Tables.{netted, cost-entry, choice-entry, Filled}
+use Rattle.records.specs.declared.flows.Flow.{Flow}
 use Rattle.records.specs.declared.Records.{Records}
 use Rattle.core.proofs.Sounding.{Good, parents-fall, falls, nodes, links, small}
 
@@ -62,7 +63,7 @@ module _ (k : Records) (G : Good k) {sums : List ℕ} (M : SumsOf k (2 ^ k .serv
       own = λ x h. ap₂ (own-figure (own-of k p)) (sym (and-full (k .services) x h)) (M .demand x h);
       children = λ c h. same-child k (2 ^ k .services) sums (falls k G) refl p t₁ u₁ c;
       rows = λ c h e x i. above c (later c e) h .costs x i;
-      links = λ c h e x i. ap₂ (λ (a b : ℕ). link-figure (link-of k c) a b) (M .leaves x i) (M .enters x i);
+      links = λ c h e x i. ap₂ (λ (a b : Flow). link-figure (link-of k c) a b) (M .leaves x i) (M .enters x i);
       own-keys = λ x h. sym (key-is _ _ (key-alone (netted k) _ (choice-at (ordered base (netted k))) (falls k G) p x) (key-alone (netted k) _ (choice-at (ordered base (netted k))) (falls k G) p x));
       keys = λ c h e x i. back-is c x (λ d y z j q o.
           let up = falls k G d z in above (netted k .parent d) (omega (arith, later c e)) (omega arith) .choices d y j (child-of (netted k) d z) o) i;

@@ -21,6 +21,7 @@ use Rattle.rows.proofs.Guards.{field-all, parent-lt}
 use Rattle.core.specs.Sound.{amounts, between, running, rooted, cabinets-sound, fields-sound, sound}
 use Rattle.core.specs.Sums.{demand-in, flow-out}
 use Rattle.core.specs.Tables.{netted}
+use Rattle.records.specs.Flows.{load-of}
 use Rattle.records.specs.declared.Records.{Records}
 
 -- a field that is there, and one that is not
@@ -131,12 +132,13 @@ module _ (k : Records) (G : Good k) where
       let w = provided-some _ _ n .0 e in
       let o = flow-out (k .from) (k .to) (k .load) (k .streams) x in
       let i = flow-out (k .to) (k .from) (k .load) (k .streams) x in
-      let q = w .0 in
+      let u : load-of o ≤ field (k .cabinets) (k .«up_capacity») c = leb-true _ _ (both-l (leb (load-of o) (field (k .cabinets) (k .«up_capacity») c)) _ (w .0)) in
+      let d : load-of i ≤ field (k .cabinets) (k .«down_capacity») c = leb-true _ _ (both-r (leb (load-of o) (field (k .cabinets) (k .«up_capacity») c)) _ (w .0)) in
       omega (
         arith,
         w .1,
-        product-le o (field (k .cabinets) (k .«up_capacity») c) (field (k .cabinets) (k .«up_price») c) (leb-true _ _ (both-l (leb o (field (k .cabinets) (k .«up_capacity») c)) _ q)) (G .up-capacities c) (G .up-prices c),
-        product-le i (field (k .cabinets) (k .«down_capacity») c) (field (k .cabinets) (k .«down_price») c) (leb-true _ _ (both-r (leb o (field (k .cabinets) (k .«up_capacity») c)) _ q)) (G .down-capacities c) (G .down-prices c),
+        product-le (o .demand) (field (k .cabinets) (k .«up_capacity») c) (field (k .cabinets) (k .«up_price») c) (omega (arith, u)) (G .up-capacities c) (G .up-prices c),
+        product-le (i .demand) (field (k .cabinets) (k .«down_capacity») c) (field (k .cabinets) (k .«down_price») c) (omega (arith, d)) (G .down-capacities c) (G .down-prices c),
       )
 
   -- so no sum is above the limit

@@ -2,14 +2,19 @@
 ghost use mathlib.Core.Path.{_≡_};
 ghost use mathlib.Core.Bool.{_&&_, not};
 ghost use Prim.Native.Nat.{_≤_, _<_};
+ghost use lib.ListN.{length};
 ghost use Rattle.finite.specs.Below.{only};
 ghost use Rattle.sheet.specs.Limits.{max-services, max-streams};
-ghost use Rattle.rows.specs.Charges.{max-sets};
+ghost use Rattle.rows.specs.Charges.{max-sets, all-sums, into-row};
 ghost use Rattle.subsets.specs.Sets.{has};
-ghost use Rattle.core.specs.Sums.{demand-in, flow-out, SumsOf};
+ghost use Rattle.core.specs.Sums.{demand-in, flow-out, put, SumsOf};
 use crate::SetSums;
 use crate::index;
 use records::Records;
+use records::flows::Flow;
+use records::flows::frames_of;
+use rows::INTO;
+use rows::OUT;
 use rows::SETS;
 use rows::SUMS;
 use sheet::Sheet;
@@ -47,25 +52,41 @@ fn demand_of(demand: &[u16; Sheet::MAX_SERVICES], r: usize, x: usize) -> u32
     sum
 }
 
-// The demand of the streams that run out of x.
+// The streams that run out of x: their demand and their frames.
 fn flow_of<'a>(
     from: &'a [u16; Sheet::MAX_STREAMS],
     to: &'a [u16; Sheet::MAX_STREAMS],
     load: &'a [u16; Sheet::MAX_STREAMS],
     q: usize,
     x: usize,
-) -> u32
+) -> Flow
     requires { ⌜ q ≤ max-streams ⌝ }
-    ensures { λ n. ⌜ n ≡ flow-out (now (from .entry)) (now (to .entry)) (now (load .entry)) q x ⌝ }
+    ensures { λ f. ⌜ f ≡ flow-out (now (from .entry)) (now (to .entry)) (now (load .entry)) q x ⌝ }
 {
-    let mut sum: u32 = 0;
+    let mut demand: u32 = 0;
+    let mut frames: u32 = 0;
     let mut j = 0;
     while j < q {
-        let part = only_if(runs_out(x, index(from[j]), index(to[j])), load[j]);
-        sum += part;
+        let is_out = runs_out(x, index(from[j]), index(to[j]));
+        demand += only_if(is_out, load[j]);
+        frames += only_if(is_out, frames_of(load[j]));
         j += 1;
     }
-    sum
+    Flow {
+        demand: demand,
+        frames: frames,
+    }
+}
+
+// Writes what runs for the set x into an array of sums: its demand into this row, its frames into the next.
+fn put_flow(of: &mut [u32], row: usize, x: usize, flow: Flow)
+    requires { ⌜ (row ≤ into-row) × (x < max-sets) × (all-sums ≤ length (now of)) ⌝ }
+    ensures { λ u. ⌜ now (of .exit) ≡ put (now (of .entry)) row x flow ⌝ }
+{
+    let demand = row * SETS + x;
+    let frames = demand + SETS;
+    of[demand] = flow.demand;
+    of[frames] = flow.frames;
 }
 
 // The sums of all sets below size.
@@ -78,12 +99,11 @@ pub(crate) fn sums_below(records: Records, size: usize) -> SetSums
     let mut of = [0u32; SUMS];
     let mut x = 0;
     while x < size {
-        let demand = demand_of(&records.demand, r, x);
         let out = flow_of(&records.from, &records.to, &records.load, q, x);
         let into = flow_of(&records.to, &records.from, &records.load, q, x);
-        of[x] = demand;
-        of[SETS + x] = out;
-        of[2 * SETS + x] = into;
+        of[x] = demand_of(&records.demand, r, x);
+        put_flow(&mut of, OUT, x, out);
+        put_flow(&mut of, INTO, x, into);
         x += 1;
     }
     SetSums { of: of }

@@ -1,4 +1,4 @@
--- Small roads, by computation: 02's barred pairs, the first of the cheapest plans, what 01's measured roads leave open, and that the theorems have instances.
+-- Small roads, by computation: 02's barred pairs, the first of the cheapest plans, 02's framing, what 01's measured roads leave open, and that the theorems have instances.
 use Prim.Native.Nat.{ℕ, zero, suc, _≤_, _<_}
 use native.Mathlib.Omega.{arith}
 use mathlib.Core.Bool.{Bool, true, false, _&&_}
@@ -17,9 +17,9 @@ use Rattle.subsets.specs.Inner.Net as nets
 use Rattle.subsets.specs.Inner.Net.{charge}
 use Rattle.sheet.specs.Instance.{Instance, Amounts, WellFormed}
 use Rattle.embedding.specs.Definition1.{member, Feasible, cost}
-use Rattle.embedding.specs.Limits.{Limits}
+use Rattle.embedding.specs.Limits.{frames, weight, Limits}
 use Rattle.embedding.specs.Road.{up, down, lower, by-way, edge-price, road}
-use Rattle.embedding.specs.Plan.{place, path-within, path, routes, demand-of, fits, unbarred, admits, link-fits, fee, toll, weight, carried, link-keeps, in-range, bars-keep, cabinets-keep, links-keep, valid, cabinets-cost, links-cost, plan-cost, digit, worth, cheapest}
+use Rattle.embedding.specs.Plan.{place, path-within, path, routes, demand-of, fits, unbarred, admits, link-fits, fee, toll, carried, link-keeps, in-range, bars-keep, cabinets-keep, links-keep, valid, cabinets-cost, links-cost, plan-cost, digit, worth, cheapest}
 use Rattle.embedding.specs.First.{nth-plan, first-from, equals, places, is-cheapest, first-number, first-plan}
 use Rattle.embedding.specs.Splits.{stands, keeps, placeable, weighed}
 use Rattle.embedding.specs.Inner.Charge.{leaving, entering, cabinet-charge, link-charge, net}
@@ -84,12 +84,12 @@ measured I = (cheapest I, weighed I)
 
 -- 15 and 15 where one cabinet is barred; no plan and 12 where every one is
 measures-barred : measured M-one ∷ measured M-every ∷ [] ≡ (some 15, 15) ∷ (none, 12) ∷ []
-unfolding worth cheapest lesser least-below digit _⇒_ only sum-below all-below any-below sum-over member up down lower by-way edge-price path-within path routes demand-of fits unbarred admits fee weight carried link-fits link-keeps in-range bars-keep cabinets-keep links-keep valid cabinets-cost links-cost plan-cost provided has subset climb under part stands keeps placeable weighed
+unfolding worth cheapest lesser least-below digit _⇒_ only sum-below all-below any-below sum-over member up down lower by-way edge-price path-within path routes demand-of fits unbarred admits fee frames weight carried link-fits link-keeps in-range bars-keep cabinets-keep links-keep valid cabinets-cost links-cost plan-cost provided has subset climb under part stands keeps placeable weighed
 measures-barred = refl
 
 -- where cabinet 0 is barred the plan (1,2) is valid at 15, and (0,1) is not valid
 plans-barred : worth M-one (place (1 ∷ 2 ∷ [])) ∷ worth M-one (place (0 ∷ 1 ∷ [])) ∷ [] ≡ some 15 ∷ none ∷ []
-unfolding worth _⇒_ only sum-below all-below sum-over member up down lower by-way edge-price path-within path routes demand-of fits fee weight carried link-fits link-keeps in-range bars-keep cabinets-keep links-keep valid cabinets-cost links-cost plan-cost provided
+unfolding worth _⇒_ only sum-below all-below sum-over member up down lower by-way edge-price path-within path routes demand-of fits fee frames weight carried link-fits link-keeps in-range bars-keep cabinets-keep links-keep valid cabinets-cost links-cost plan-cost provided
 plans-barred = refl
 
 -- and no mapping over (0,1) keeps the limits
@@ -116,13 +116,39 @@ first-of I = places (I .r) (first-plan I)
 
 -- (0,1) on M, where (1,2) costs the same; (1,2) on M0; the lower cabinet for service 0, not for service 1; and (1,2) on M where service 0 is barred from cabinet 0
 firsts : first-of M ∷ first-of M0 ∷ first-of either-way ∷ first-of M-one ∷ [] ≡ (0 ∷ 1 ∷ []) ∷ (1 ∷ 2 ∷ []) ∷ (0 ∷ 1 ∷ []) ∷ (1 ∷ 2 ∷ []) ∷ []
-unfolding first-plan first-number first-from nth-plan equals places is-cheapest worth cheapest lesser least-below digit _⇒_ only sum-below all-below sum-over member up down lower by-way edge-price path-within path routes demand-of fits fee weight carried link-fits link-keeps in-range bars-keep cabinets-keep links-keep valid cabinets-cost links-cost plan-cost provided
+unfolding first-plan first-number first-from nth-plan equals places is-cheapest worth cheapest lesser least-below digit _⇒_ only sum-below all-below sum-over member up down lower by-way edge-price path-within path routes demand-of fits fee frames weight carried link-fits link-keeps in-range bars-keep cabinets-keep links-keep valid cabinets-cost links-cost plan-cost provided
 firsts = refl
 
 -- (1,2,0) on Z
 first-of-Z : first-of Z ≡ 1 ∷ 2 ∷ 0 ∷ []
-unfolding first-plan first-number first-from nth-plan equals places is-cheapest worth cheapest lesser least-below digit _⇒_ only sum-below all-below sum-over member up down lower by-way edge-price path-within path routes demand-of fits fee weight carried link-fits link-keeps in-range bars-keep cabinets-keep links-keep valid cabinets-cost links-cost plan-cost provided
+unfolding first-plan first-number first-from nth-plan equals places is-cheapest worth cheapest lesser least-below digit _⇒_ only sum-below all-below sum-over member up down lower by-way edge-price path-within path routes demand-of fits fee frames weight carried link-fits link-keeps in-range bars-keep cabinets-keep links-keep valid cabinets-cost links-cost plan-cost provided
 first-of-Z = refl
+
+-- ---- framing
+
+-- M with this up capacity of cabinet 1, and these streams
+abbrev M-streams : ℕ → List (List ℕ) → Instance
+M-streams up streams =
+    instance ((2 ∷ []) ∷ (2 ∷ []) ∷ [])
+    ((65535 ∷ 4 ∷ 5 ∷ 0 ∷ 0 ∷ 0 ∷ 0 ∷ []) ∷ (0 ∷ 3 ∷ 1 ∷ up ∷ 2 ∷ 6 ∷ 1 ∷ []) ∷ (0 ∷ 3 ∷ 2 ∷ 2 ∷ 1 ∷ 6 ∷ 1 ∷ []) ∷ []) streams
+
+-- the plan (1,0) with these streams keeps the links of M with this up capacity of cabinet 1
+abbrev lets-through : ℕ → List (List ℕ) → Bool
+lets-through up streams = links-keep (M-streams up streams) (place (1 ∷ 0 ∷ []))
+
+-- streams of 1 and 2 of one pair take 7, not 6; with one of them the other way the two directions are apart; a stream of 1 takes 3, not 2; one of demand 0 takes nothing
+framed :
+    lets-through 7 ((0 ∷ 1 ∷ 1 ∷ []) ∷ (0 ∷ 1 ∷ 2 ∷ []) ∷ []) ∷ lets-through 6 ((0 ∷ 1 ∷ 1 ∷ []) ∷ (0 ∷ 1 ∷ 2 ∷ []) ∷ [])
+    ∷ lets-through 3 ((0 ∷ 1 ∷ 1 ∷ []) ∷ (1 ∷ 0 ∷ 2 ∷ []) ∷ []) ∷ lets-through 2 ((0 ∷ 1 ∷ 1 ∷ []) ∷ (1 ∷ 0 ∷ 2 ∷ []) ∷ [])
+    ∷ lets-through 0 ((0 ∷ 1 ∷ 0 ∷ []) ∷ []) ∷ []
+    ≡ true ∷ false ∷ true ∷ false ∷ true ∷ []
+unfolding _⇒_ only sum-below all-below member up down path-within path routes frames weight carried link-fits link-keeps links-keep
+framed = refl
+
+-- the price is that of the demand: (1,0) costs 2 × 1 + 2 × 5 in cabinets, and 3 × 2 for the stream
+price-of-demand : plan-cost M (place (1 ∷ 0 ∷ [])) ≡ 18
+unfolding _⇒_ only sum-below all-below sum-over member up down lower by-way edge-price path-within path routes fee frames weight carried cabinets-cost links-cost plan-cost
+price-of-demand = refl
 
 -- ---- what 01's roads leave open
 
@@ -131,7 +157,7 @@ abbrev two-streams : Instance
 two-streams = instance ((2 ∷ []) ∷ (2 ∷ []) ∷ []) cabinets ((0 ∷ 1 ∷ 3 ∷ []) ∷ (0 ∷ 1 ∷ 4 ∷ []) ∷ [])
 
 streams-add-up : links-keep two-streams (place (1 ∷ 0 ∷ [])) ≡ false
-unfolding _⇒_ only sum-below all-below member up down path-within path routes weight carried link-fits link-keeps links-keep
+unfolding _⇒_ only sum-below all-below member up down path-within path routes frames weight carried link-fits link-keeps links-keep
 streams-add-up = refl
 
 -- the part before cabinet 2 holds cabinet 3, which is under cabinet 1 and alone has room
@@ -141,12 +167,12 @@ late-child =
     ((65535 ∷ 0 ∷ 0 ∷ 0 ∷ 0 ∷ 0 ∷ 0 ∷ []) ∷ (0 ∷ 0 ∷ 0 ∷ 0 ∷ 0 ∷ 0 ∷ 0 ∷ []) ∷ (0 ∷ 0 ∷ 0 ∷ 0 ∷ 0 ∷ 0 ∷ 0 ∷ []) ∷ (1 ∷ 3 ∷ 0 ∷ 0 ∷ 0 ∷ 0 ∷ 0 ∷ []) ∷ []) []
 
 part-has-descendants : placeable late-child 2 1 ≡ true
-unfolding digit _⇒_ only sum-below all-below any-below member up down path-within path routes demand-of fits unbarred admits weight carried link-fits link-keeps has climb under part stands keeps placeable
+unfolding digit _⇒_ only sum-below all-below any-below member up down path-within path routes demand-of fits unbarred admits frames weight carried link-fits link-keeps has climb under part stands keeps placeable
 part-has-descendants = refl
 
 -- the charges of the plans (0,1), (1,0) and (2,0) for M
 charges-of-M : charge (net M) (λ d. true) 0 3 (place (0 ∷ 1 ∷ [])) ∷ charge (net M) (λ d. true) 0 3 (place (1 ∷ 0 ∷ [])) ∷ charge (net M) (λ d. true) 0 3 (place (2 ∷ 0 ∷ [])) ∷ [] ≡ some 15 ∷ some 18 ∷ none ∷ []
-unfolding _⇒_ only sum-below all-below _⊕_ charged provided total-below has keep climb under nets.charge demand-of fits unbarred admits fee toll weight leaving entering link-fits cabinet-charge link-charge
+unfolding _⇒_ only sum-below all-below _⊕_ charged provided total-below has keep climb under nets.charge demand-of fits unbarred admits fee toll frames weight leaving entering link-fits cabinet-charge link-charge
 charges-of-M = refl
 
 -- ---- the theorems have instances: M is well formed, so by Definition 1 the plan (1,0) has a feasible mapping of cost 18, and (2,0) has none
@@ -195,9 +221,9 @@ M-well-formed = record {
     only-stream (suc j) k = absurd (omega arith)
 
 feasible-on-M : (ρ : ℕ → List ℕ) × Feasible (road M) (place (1 ∷ 0 ∷ [])) ρ × Limits M (place (1 ∷ 0 ∷ [])) ρ × (cost (road M) (place (1 ∷ 0 ∷ [])) ρ ≡ 18)
-unfolding _⇒_ only sum-below all-below sum-over member up down lower by-way edge-price path-within path routes demand-of fits fee weight carried link-fits link-keeps in-range bars-keep cabinets-keep links-keep valid cabinets-cost links-cost plan-cost
+unfolding _⇒_ only sum-below all-below sum-over member up down lower by-way edge-price path-within path routes demand-of fits fee frames weight carried link-fits link-keeps in-range bars-keep cabinets-keep links-keep valid cabinets-cost links-cost plan-cost
 feasible-on-M = plan-iff-mapping M M-well-formed (place (1 ∷ 0 ∷ [])) 18 .0 (refl, refl)
 
 none-on-M : (ρ : ℕ → List ℕ) → Feasible (road M) (place (2 ∷ 0 ∷ [])) ρ → Limits M (place (2 ∷ 0 ∷ [])) ρ → ⊥
-unfolding _⇒_ only sum-below all-below member up down path-within path routes demand-of fits weight carried link-fits link-keeps in-range bars-keep cabinets-keep links-keep valid
+unfolding _⇒_ only sum-below all-below member up down path-within path routes demand-of fits frames weight carried link-fits link-keeps in-range bars-keep cabinets-keep links-keep valid
 none-on-M ρ F L = clash (sym (plan-iff-mapping M M-well-formed (place (2 ∷ 0 ∷ [])) (cost (road M) (place (2 ∷ 0 ∷ [])) ρ) .1 (ρ, F, L, refl) .0))

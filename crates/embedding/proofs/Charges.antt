@@ -19,7 +19,8 @@ use Rattle.subsets.specs.Inner.Net as nets
 use Rattle.subsets.specs.Inner.Net.{on, below, charge, Sits}
 use Rattle.subsets.proofs.Tree.{under-small}
 use Rattle.sheet.specs.Instance.{Instance, WellFormed}
-use Rattle.embedding.specs.Plan.{fits, unbarred, admits, link-fits, fee, toll, weight, link-keeps, in-range, bars-keep, cabinets-keep, links-keep, valid, cabinets-cost, plan-cost, worth}
+use Rattle.embedding.specs.Limits.{weight}
+use Rattle.embedding.specs.Plan.{fits, unbarred, admits, link-fits, fee, toll, link-keeps, in-range, bars-keep, cabinets-keep, links-keep, valid, cabinets-cost, plan-cost, worth}
 use Rattle.embedding.specs.Splits.{stands, keeps}
 use Rattle.embedding.specs.Inner.Charge.{cabinet-charge, link-charge, net}
 use Rattle.subsets.proofs.Sets.{has-keep, has-full}

@@ -13,10 +13,11 @@ use Rattle.subsets.specs.Tree.{under}
 use Rattle.sheet.specs.Instance.{Instance, WellFormed}
 use Rattle.embedding.specs.Definition1.{Graph, Walk}
 use Rattle.embedding.specs.Road.{up, down, edge-price, tree}
-use Rattle.embedding.specs.Plan.{routes, link-fits, toll, weight, carried, link-keeps, links-cost}
+use Rattle.embedding.specs.Limits.{weight}
+use Rattle.embedding.specs.Plan.{routes, link-fits, toll, carried, link-keeps, links-cost}
 use Rattle.embedding.specs.Inner.Charge.{leaving, entering}
 use Rattle.embedding.proofs.Edges.{price-up, price-down}
-use Rattle.embedding.proofs.Reckoning.{only-mul, link-fits-by-flows, toll-by-price}
+use Rattle.embedding.proofs.Reckoning.{only-mul, link-fits-by-capacity, toll-by-price}
 use Rattle.embedding.proofs.Mappings.{InRange, route-simple}
 use Rattle.embedding.proofs.Cut.{times, member-times, leaves, cut}
 
@@ -79,11 +80,11 @@ module _ (I : Instance) (W : WellFormed I) (π : ℕ → ℕ) (placed : InRange 
   unfolding link-keeps
   link-keeps-by-cut c z = ap₂ (link-fits I c) (carried-up c z) (carried-down c z)
 
-  -- and by their demand
+  -- and by the capacities of its directions
   pub link-keeps-by-flows : (c : ℕ) → 0 < c → link-keeps I π c
-      ≡ leb (leaving I (I .load) (λ i. under (I .parent) c (π i))) (I .up-capacity c)
-      && leb (entering I (I .load) (λ i. under (I .parent) c (π i))) (I .down-capacity c)
-  link-keeps-by-flows c z = link-keeps-by-cut c z ∙ link-fits-by-flows I c (λ i. under (I .parent) c (π i))
+      ≡ leb (leaving I (weight I) (λ i. under (I .parent) c (π i))) (I .up-capacity c)
+      && leb (entering I (weight I) (λ i. under (I .parent) c (π i))) (I .down-capacity c)
+  link-keeps-by-flows c z = link-keeps-by-cut c z ∙ link-fits-by-capacity I c _ _
 
   -- ---- cost
 

@@ -4,31 +4,31 @@ use native.Mathlib.Nat.{zero-add}
 use native.Mathlib.Omega.{arith}
 use mathlib.Core.Logic.{_↔_, _⊎_, inl, inr}
 use mathlib.Core.Path.{_≡_, refl, sym, ap, ap₂, _∙_, subst}
-use mathlib.Core.Bool.{true, false, not}
+use mathlib.Core.Bool.{Bool, true, false, not}
 use mathlib.Core.List.{List}
 use lib.Dec.{eqb, ltb, leb}
 use borrow.Author.Tests.{ltb-true, leb-true, lt-ltb, le-leb, not-true}
 use Rattle.finite.specs.Below.{_⇒_, only, sum-below, sum-over}
 use Rattle.finite.proofs.Booleans.{both, both-l, both-r, implies, implied}
-use Rattle.finite.proofs.Sums.{sum-ext, sum-over-ext}
+use Rattle.finite.proofs.Sums.{sum-ext, sum-mono, sum-over-ext}
 use Rattle.finite.proofs.Tests.{all-in, all-at}
 use Rattle.sheet.specs.Instance.{Instance, WellFormed}
 use Rattle.embedding.specs.Definition1.{member, SimplePath, node-load, edge-load, Feasible, cost}
-use Rattle.embedding.specs.Limits.{Limits}
+use Rattle.embedding.specs.Limits.{weight, Limits}
 use Rattle.embedding.specs.Road.{up, down, lower, by-way, edge-price, tree, road}
 use Rattle.embedding.specs.Plan.{routes, demand-of, carried, link-keeps, in-range, bars-keep, cabinets-keep, links-keep, valid, links-cost, plan-cost}
 use Rattle.embedding.proofs.Edges.{which, lower-pos, edge-lower, up-edge, down-edge, at-up, at-down}
 use Rattle.embedding.proofs.Paths.{path-simple, path-only}
 use Rattle.embedding.proofs.Feasible.{sums-suffice}
-use Rattle.embedding.proofs.Reckoning.{demand-sum, cabinets-by-demand, cabinets-cost-sum, link-fits-by-capacity, weight-load}
+use Rattle.embedding.proofs.Reckoning.{demand-sum, cabinets-by-demand, cabinets-cost-sum, link-fits-by-capacity, load-le-weight}
 
 -- every service has a cabinet of the road
 abbrev pub InRange : Instance → (ℕ → ℕ) → Type 0
 InRange I π = (i : ℕ) → i < I .r → π i < I .s
 
--- what validity tests beyond Definition 1, and the limits must give: the test of the bars
+-- what validity tests beyond Definition 1, and the limits must give: the test of the bars, and that of the links, where framing counts
 unfoldable pub Beyond : Instance → (ℕ → ℕ) → Type 0
-Beyond I π = bars-keep I π ≡ true
+Beyond I π = (bars-keep I π ≡ true) × (links-keep I π ≡ true)
 
 module _ (I : Instance) where
   -- ---- the tests of a plan, as facts
@@ -70,15 +70,34 @@ module _ (I : Instance) where
         ∙ both _ _ (le-leb _ _ (p c (ltb-true 0 c z) k .0)) (le-leb _ _ (p c (ltb-true 0 c z) k .1)))),
   )
 
+  -- which is that of each edge
+  pub edges-test : (π : ℕ → ℕ) → (links-keep I π ≡ true) ↔ ((e : ℕ) → e < tree I .edges → carried I π e ≤ road I .edge-capacity e 0)
+  edges-test π = (
+    λ h e k. go e (edge-lower I e k) (links-test π .0 h) (which e),
+    λ p. links-test π .1 (λ c z k. (
+      omega (arith, p (up c) (up-edge I c z k), at-up I (I .up-capacity) (I .down-capacity) c z),
+      omega (arith, p (down c) (down-edge I c z k), at-down I (I .up-capacity) (I .down-capacity) c z),
+    )),
+  )
+    where
+      Kept : ℕ → Type 0
+      Kept e = carried I π e ≤ by-way e (I .up-capacity (lower e)) (I .down-capacity (lower e))
+
+      go : (e : ℕ) → lower e < I .s
+          → ((c : ℕ) → 0 < c → c < I .s → (carried I π (up c) ≤ I .up-capacity c) × (carried I π (down c) ≤ I .down-capacity c))
+          → (e ≡ up (lower e)) ⊎ (e ≡ down (lower e)) → Kept e
+      go e k l (inl q) = subst Kept (sym q) (omega (arith, l (lower e) (lower-pos e) k .0, at-up I (I .up-capacity) (I .down-capacity) (lower e) (lower-pos e)))
+      go e k l (inr q) = subst Kept (sym q) (omega (arith, l (lower e) (lower-pos e) k .1, at-down I (I .up-capacity) (I .down-capacity) (lower e) (lower-pos e)))
+
   -- a plan is valid when it passes the tests of Definition 1, and what is tested beyond it
-  pub valid-test : (π : ℕ → ℕ) → (valid I π ≡ true) ↔ ((in-range I π ≡ true) × (cabinets-keep I π ≡ true) × (links-keep I π ≡ true) × Beyond I π)
+  pub valid-test : (π : ℕ → ℕ) → (valid I π ≡ true) ↔ ((in-range I π ≡ true) × (cabinets-keep I π ≡ true) × Beyond I π)
   unfolding valid Beyond
   valid-test π = (
     λ h.
         let k = both-r (in-range I π) _ h in
         let l = both-r (bars-keep I π) _ k in
-        (both-l (in-range I π) _ h, both-l (cabinets-keep I π) (links-keep I π) l, both-r (cabinets-keep I π) (links-keep I π) l, both-l (bars-keep I π) _ k),
-    λ p. both (in-range I π) _ (p .0) (both (bars-keep I π) _ (p .3) (both (cabinets-keep I π) (links-keep I π) (p .1) (p .2))),
+        (both-l (in-range I π) _ h, both-l (cabinets-keep I π) (links-keep I π) l, (both-l (bars-keep I π) _ k, both-r (cabinets-keep I π) (links-keep I π) l)),
+    λ p. both (in-range I π) _ (p .0) (both (bars-keep I π) _ (p .2 .0) (both (cabinets-keep I π) (links-keep I π) (p .1) (p .2 .1))),
   )
 
   -- ---- the sums of Definition 1 at one amount
@@ -101,9 +120,20 @@ module _ (I : Instance) where
   unfolding node-load
   node-load-plan π ρ c t = sym (demand-sum I (λ i. eqb (π i) c))
 
-  edge-load-plan : (π : ℕ → ℕ) (ρ : ℕ → List ℕ) → ((j : ℕ) → j < I .q → ρ j ≡ routes I π j) → (e t : ℕ) → edge-load (road I) π ρ e t ≡ carried I π e
-  unfolding edge-load carried
-  edge-load-plan π ρ r e t = sum-ext (I .q) _ _ (λ j k. ap₂ (λ (l : List ℕ) (w : ℕ). only (member e l) w) (r j k) (sym (weight-load I j)))
+  -- what the streams take of an edge along the computed paths is what the plan puts there
+  weights-plan : (π : ℕ → ℕ) (ρ : ℕ → List ℕ) → ((j : ℕ) → j < I .q → ρ j ≡ routes I π j)
+      → (e : ℕ) → sum-below (I .q) (λ j. only (member e (ρ j)) (weight I j)) ≡ carried I π e
+  unfolding carried
+  weights-plan π ρ r e = sum-ext (I .q) _ _ (λ j k. ap (λ (l : List ℕ). only (member e l) (weight I j)) (r j k))
+
+  -- the demand on an edge is at most what the streams take of it
+  edge-load-le : (π : ℕ → ℕ) (ρ : ℕ → List ℕ) (e t : ℕ) → edge-load (road I) π ρ e t ≤ sum-below (I .q) (λ j. only (member e (ρ j)) (weight I j))
+  unfolding edge-load only
+  edge-load-le π ρ e t = sum-mono (I .q) _ _ (λ j k. more (member e (ρ j)) j)
+    where
+      more : (b : Bool) (j : ℕ) → only b (I .load j) ≤ only b (weight I j)
+      more true j = load-le-weight I j
+      more false j = omega arith
 
 module _ (I : Instance) (W : WellFormed I) where
   -- a mapping leaves no choice of paths
@@ -123,12 +153,18 @@ module _ (I : Instance) (W : WellFormed I) where
   -- a valid plan keeps the limits along the computed paths
   pub valid-limits : (π : ℕ → ℕ) → valid I π ≡ true → Limits I π (routes I π)
   unfolding Beyond
-  valid-limits π v = record { bars = bars-test I π .0 (valid-test I π .0 v .3) }
+  valid-limits π v =
+      let b = valid-test I π .0 v .2 in
+      record {
+        bars = bars-test I π .0 (b .0);
+        framing = λ e k. omega (arith, weights-plan I π (routes I π) (λ j k. refl) e, edges-test I π .0 (b .1) e k);
+      }
 
   -- a feasible mapping that keeps the limits passes what validity tests beyond Definition 1
   pub limits-beyond : (π : ℕ → ℕ) (ρ : ℕ → List ℕ) → Feasible (road I) π ρ → Limits I π ρ → Beyond I π
   unfolding Beyond
-  limits-beyond π ρ F L = bars-test I π .1 (L .bars)
+  limits-beyond π ρ F L =
+      (bars-test I π .1 (L .bars), edges-test I π .1 (λ e k. omega (arith, weights-plan I π ρ (route-only π ρ F) e, L .framing e k)))
 
   -- ---- validity and feasibility
 
@@ -137,39 +173,17 @@ module _ (I : Instance) (W : WellFormed I) where
       valid-test I π .1 (
         range-test I π .1 (F .valid .placed),
         cabinets-test I π .1 (λ c k. omega (arith, F .nodes-keep c k 0 (omega arith), node-load-plan I π ρ c 0)),
-        links-test I π .1 (λ c z k. (
-          omega (arith, F .edges-keep (up c) (up-edge I c z k) 0 (omega arith), edge-load-plan I π ρ (route-only π ρ F) (up c) 0, at-up I (I .up-capacity) (I .down-capacity) c z),
-          omega (arith, F .edges-keep (down c) (down-edge I c z k) 0 (omega arith), edge-load-plan I π ρ (route-only π ρ F) (down c) 0, at-down I (I .up-capacity) (I .down-capacity) c z),
-        )),
         limits-beyond π ρ F L,
       )
 
+  -- the demand of the streams is within the capacities, since it is with the framing
   valid-feasible : (π : ℕ → ℕ) → valid I π ≡ true → Feasible (road I) π (routes I π)
   valid-feasible π v =
       let t = valid-test I π .0 v in
       let p : InRange I π = range-test I π .0 (t .0) in
       sums-suffice (road I) π (routes I π) p (route-simple π p)
       (λ c k n _. omega (arith, cabinets-test I π .0 (t .1) c k, node-load-plan I π (routes I π) c n))
-      (λ e k n _. edge e n (edge-lower I e k) (links-test I π .0 (t .2)) (which e))
-    where
-      Kept : ℕ → ℕ → Type 0
-      Kept n e = edge-load (road I) π (routes I π) e n ≤ by-way e (I .up-capacity (lower e)) (I .down-capacity (lower e))
-
-      edge : (e n : ℕ) → lower e < I .s
-          → ((c : ℕ) → 0 < c → c < I .s → (carried I π (up c) ≤ I .up-capacity c) × (carried I π (down c) ≤ I .down-capacity c))
-          → (e ≡ up (lower e)) ⊎ (e ≡ down (lower e)) → Kept n e
-      edge e n k l (inl q) = subst (Kept n) (sym q) (omega (
-        arith,
-        l (lower e) (lower-pos e) k .0,
-        edge-load-plan I π (routes I π) (λ j k. refl) (up (lower e)) n,
-        at-up I (I .up-capacity) (I .down-capacity) (lower e) (lower-pos e),
-      ))
-      edge e n k l (inr q) = subst (Kept n) (sym q) (omega (
-        arith,
-        l (lower e) (lower-pos e) k .1,
-        edge-load-plan I π (routes I π) (λ j k. refl) (down (lower e)) n,
-        at-down I (I .up-capacity) (I .down-capacity) (lower e) (lower-pos e),
-      ))
+      (λ e k n _. omega (arith, edge-load-le I π (routes I π) e n, valid-limits π v .framing e k))
 
   -- a plan is valid at cost k exactly when some mapping over it is feasible, keeps the limits, and costs k
   pub plan-iff-mapping : (π : ℕ → ℕ) (k : ℕ) →

@@ -1,5 +1,5 @@
 -- What cabinets and links admit and charge, reckoned with sums of demands and loads, and with a number whose digits are the services barred from a cabinet. A proof that needs the numbers behind these names cites a law of this page.
-use Prim.Native.Nat.{ℕ, _+_, _*_, _<_}
+use Prim.Native.Nat.{ℕ, zero, suc, _+_, _*_, _≤_, _<_}
 use native.Mathlib.Omega.{arith}
 use mathlib.Core.Path.{_≡_, refl, sym, ap, ap₂, _∙_}
 use mathlib.Core.Bool.{Bool, true, false, _&&_, not}
@@ -13,7 +13,8 @@ use Rattle.subsets.specs.Costs.{provided}
 use Rattle.subsets.specs.Inner.Masks.{full}
 use Rattle.subsets.proofs.Sets.{full-lt, has-and-full, apart-and}
 use Rattle.sheet.specs.Instance.{Instance}
-use Rattle.embedding.specs.Plan.{demand-of, fits, unbarred, admits, link-fits, fee, toll, weight, cabinets-keep, cabinets-cost}
+use Rattle.embedding.specs.Limits.{frames, weight}
+use Rattle.embedding.specs.Plan.{demand-of, fits, unbarred, admits, link-fits, fee, toll, cabinets-keep, cabinets-cost}
 use Rattle.embedding.specs.Inner.Charge.{leaving, entering, cabinet-charge, link-charge}
 
 -- a number that a test lets through, and a factor
@@ -21,6 +22,17 @@ pub only-mul : (t : Bool) (m n : ℕ) → only t m * n ≡ only t (m * n)
 unfolding only
 only-mul true m n = refl
 only-mul false m n = omega arith
+
+-- a sum of numbers that a test lets through, each with 2 more for all that g counts
+framed-sum : (n : ℕ) (t : ℕ → Bool) (f g : ℕ → ℕ)
+    → sum-below n (λ j. only (t j) (f j + 2 * g j)) ≡ sum-below n (λ j. only (t j) (f j)) + 2 * sum-below n (λ j. only (t j) (g j))
+unfolding sum-below only
+framed-sum zero t f g = refl
+framed-sum (suc n) t f g = omega (arith, framed-sum n t f g, at (t n))
+  where
+    at : (b : Bool) → only b (f n + 2 * g n) ≡ only b (f n) + 2 * only b (g n)
+    at true = refl
+    at false = refl
 
 module _ (I : Instance) where
   -- ---- cabinets
@@ -89,31 +101,28 @@ module _ (I : Instance) where
   unfolding toll
   toll-by-price c m n = refl
 
-  -- a stream takes its demand of a link's capacity
-  pub weight-load : (j : ℕ) → weight I j ≡ I .load j
+  -- a stream takes no less of a link's capacity than its demand
+  pub load-le-weight : (j : ℕ) → I .load j ≤ weight I j
   unfolding weight
-  weight-load j = refl
+  load-le-weight j = omega arith
 
-  -- so what leaves a set takes its demand
-  pub leaving-weight : (x : ℕ → Bool) → leaving I (weight I) x ≡ leaving I (I .load) x
-  unfolding leaving
-  leaving-weight x = sum-ext (I .q) _ _ (λ j k. ap (only _) (weight-load j))
+  -- what leaves a set takes the demand that leaves it, and 2 for each frame
+  pub leaving-weight : (x : ℕ → Bool) → leaving I (weight I) x ≡ leaving I (I .load) x + 2 * leaving I (frames I) x
+  unfolding leaving weight
+  leaving-weight x = framed-sum (I .q) (λ j. x (I .from j) && not (x (I .to j))) (I .load) (frames I)
 
-  -- and what enters it
-  pub entering-weight : (x : ℕ → Bool) → entering I (weight I) x ≡ entering I (I .load) x
-  unfolding entering
-  entering-weight x = sum-ext (I .q) _ _ (λ j k. ap (only _) (weight-load j))
+  -- and so does what enters it
+  pub entering-weight : (x : ℕ → Bool) → entering I (weight I) x ≡ entering I (I .load) x + 2 * entering I (frames I) x
+  unfolding entering weight
+  entering-weight x = framed-sum (I .q) (λ j. x (I .to j) && not (x (I .from j))) (I .load) (frames I)
 
-  -- whether a link lets through what leaves and enters a set, by their demand
-  pub link-fits-by-flows : (c : ℕ) (x : ℕ → Bool) → link-fits I c (leaving I (weight I) x) (entering I (weight I) x)
-      ≡ leb (leaving I (I .load) x) (I .up-capacity c) && leb (entering I (I .load) x) (I .down-capacity c)
-  link-fits-by-flows c x =
-      link-fits-by-capacity c (leaving I (weight I) x) (entering I (weight I) x)
-      ∙ ap₂ (λ (m n : ℕ). leb m (I .up-capacity c) && leb n (I .down-capacity c)) (leaving-weight x) (entering-weight x)
-
-  -- what a link charges for the set under it, by the demand that leaves and enters the set
+  -- what a link charges for the set under it, by the demand and the frames that leave and enter the set
   pub charge-by-flows : (c x : ℕ) → link-charge I c x
-      ≡ provided (leb (leaving I (I .load) (has x)) (I .up-capacity c) && leb (entering I (I .load) (has x)) (I .down-capacity c))
+      ≡ provided (leb (leaving I (I .load) (has x) + 2 * leaving I (frames I) (has x)) (I .up-capacity c)
+      && leb (entering I (I .load) (has x) + 2 * entering I (frames I) (has x)) (I .down-capacity c))
       (leaving I (I .load) (has x) * I .up-price c + entering I (I .load) (has x) * I .down-price c)
   unfolding link-charge
-  charge-by-flows c x = ap₂ provided (link-fits-by-flows c (has x)) (toll-by-price c (leaving I (I .load) (has x)) (entering I (I .load) (has x)))
+  charge-by-flows c x =
+      ap₂ provided
+      (link-fits-by-capacity c _ _ ∙ ap₂ (λ (m n : ℕ). leb m (I .up-capacity c) && leb n (I .down-capacity c)) (leaving-weight (has x)) (entering-weight (has x)))
+      (toll-by-price c (leaving I (I .load) (has x)) (entering I (I .load) (has x)))

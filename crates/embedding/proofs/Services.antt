@@ -11,7 +11,8 @@ use Rattle.subsets.specs.Costs.{provided}
 use Rattle.sheet.specs.Instance.{Instance, WellFormed}
 use Rattle.embedding.specs.Definition1.{member}
 use Rattle.embedding.specs.Road.{up, down, edge-price}
-use Rattle.embedding.specs.Plan.{path, routes, demand-of, fits, unbarred, admits, link-fits, fee, toll, weight, carried, link-keeps, in-range, bars-keep, cabinets-keep, links-keep, valid, cabinets-cost, links-cost, plan-cost, worth}
+use Rattle.embedding.specs.Limits.{weight}
+use Rattle.embedding.specs.Plan.{path, routes, demand-of, fits, unbarred, admits, link-fits, fee, toll, carried, link-keeps, in-range, bars-keep, cabinets-keep, links-keep, valid, cabinets-cost, links-cost, plan-cost, worth}
 use Rattle.embedding.specs.Inner.Charge.{leaving, entering}
 use Rattle.embedding.proofs.Loads.{link-cost}
 

@@ -14,9 +14,9 @@ use Rattle.subsets.specs.Costs.{Cost, none, some, is-some}
 use Rattle.subsets.specs.Inner.Net.{charge, Least}
 use Rattle.sheet.specs.Instance.{Instance, WellFormed}
 use Rattle.embedding.specs.Definition1.{Input, AtMost, member, SimplePath, node-load, edge-load, Feasible, cost}
-use Rattle.embedding.specs.Limits.{Limits}
+use Rattle.embedding.specs.Limits.{frames, weight, Limits}
 use Rattle.embedding.specs.Road.{up, down, tree, road}
-use Rattle.embedding.specs.Plan.{path, routes, toll, weight, carried, in-range, valid, links-cost, plan-cost, cheapest}
+use Rattle.embedding.specs.Plan.{path, routes, toll, carried, in-range, valid, links-cost, plan-cost, cheapest}
 use Rattle.embedding.specs.First.{first-plan}
 use Rattle.embedding.specs.Splits.{keeps, placeable, weighed}
 use Rattle.embedding.specs.Inner.Charge.{leaving, entering, net}
@@ -25,6 +25,7 @@ use Rattle.embedding.proofs.Edges as edges
 use Rattle.embedding.proofs.Paths.{path-simple, path-only}
 use Rattle.embedding.proofs.Mappings as mappings
 use Rattle.embedding.proofs.Mappings.{range-test}
+use Rattle.embedding.proofs.Reckoning as reckoning
 use Rattle.embedding.proofs.Cut as cuts
 use Rattle.embedding.proofs.Loads as loads
 use Rattle.embedding.proofs.Bound as bounds
@@ -79,6 +80,12 @@ module _ (I : Instance) (W : WellFormed I) where
       × (carried I π (down c) ≡ sum-below (I .q) (λ j. only (under (I .parent) c (π (I .to j)) && not (under (I .parent) c (π (I .from j)))) (weight I j)))
   unfolding leaving entering
   load-by-cut π h c z = (loads.carried-up I W π (range-test I π .0 h) c z, loads.carried-down I W π (range-test I π .0 h) c z)
+
+  -- What a set of services takes of a link's capacity: the demand that leaves, or enters, the set, and 2 for each such stream of demand above 0.
+  pub framed-load : (x : ℕ → Bool) →
+      (leaving I (weight I) x ≡ leaving I (I .load) x + 2 * leaving I (frames I) x)
+      × (entering I (weight I) x ≡ entering I (I .load) x + 2 * entering I (frames I) x)
+  framed-load x = (reckoning.leaving-weight I x, reckoning.entering-weight I x)
 
   -- The links' part of the cost, link by link: the demand that leaves what is under the link, times the up price, and what enters it, times the down price.
   pub cost-by-links : (π : ℕ → ℕ) → in-range I π ≡ true →

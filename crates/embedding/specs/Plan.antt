@@ -1,4 +1,4 @@
--- 01, "A valid plan and its cost", with the barred pairs of 02 (a). A plan π gives each service i the cabinet π i.
+-- 01, "A valid plan and its cost", with the barred pairs of 02 (a) and the framing of 02 (e). A plan π gives each service i the cabinet π i.
 use Prim.Native.Nat.{ℕ, zero, suc, _+_, _*_, _/_, _%_, _^_}
 use mathlib.Core.Bool.{Bool, true, false, _&&_, not}
 use mathlib.Core.List.{List, [], _∷_, _++_}
@@ -9,6 +9,7 @@ use Rattle.subsets.specs.Costs.{Cost, provided, least-below}
 use Rattle.sheet.specs.Instance.{Instance}
 use Rattle.embedding.specs.Definition1.{member}
 use Rattle.embedding.specs.Road.{up, down, edge-price}
+use Rattle.embedding.specs.Limits.{weight}
 
 -- the cabinet that a plan, written as a list, gives service i
 abbrev pub place : List ℕ → ℕ → ℕ
@@ -65,13 +66,9 @@ module _ (I : Instance) where
   unfoldable pub toll : ℕ → ℕ → ℕ → ℕ
   toll c m n = m * I .up-price c + n * I .down-price c
 
-  -- what stream j takes of a link's capacity in the direction in which it runs
-  unfoldable pub weight : ℕ → ℕ
-  weight j = I .load j
-
   -- what all streams that run along the edge e take of its capacity
   unfoldable pub carried : (ℕ → ℕ) → ℕ → ℕ
-  carried π e = sum-below (I .q) (λ j. only (member e (routes π j)) (weight j))
+  carried π e = sum-below (I .q) (λ j. only (member e (routes π j)) (weight I j))
 
   -- neither direction of the link above c is overfull
   unfoldable pub link-keeps : (ℕ → ℕ) → ℕ → Bool
@@ -93,7 +90,7 @@ module _ (I : Instance) where
   unfoldable pub links-keep : (ℕ → ℕ) → Bool
   links-keep π = all-below (I .s) (λ c. ltb 0 c ⇒ link-keeps π c)
 
-  -- a plan is valid when it passes the four tests; source document 000, which bars nothing, says feasible
+  -- a plan is valid when it passes the four tests; source document 000, which bars and frames nothing, says feasible
   unfoldable pub valid : (ℕ → ℕ) → Bool
   valid π = in-range π && (bars-keep π && (cabinets-keep π && links-keep π))
 

@@ -24,6 +24,7 @@ use Rattle.subsets.specs.Inner.Count as counts
 use Rattle.subsets.proofs.Rows.{row-before}
 use Rattle.sheet.specs.Limits.{max-services, max-cabinets, max-streams, max-amount}
 use Rattle.sheet.specs.Instance.{Instance, WellFormed}
+use Rattle.embedding.specs.Limits.{frames}
 use Rattle.embedding.specs.Plan.{demand-of, cheapest}
 use Rattle.embedding.specs.First.{first-plan, places}
 use Rattle.embedding.proofs.First.{places-only, seat-first-table}
@@ -37,10 +38,12 @@ use Rattle.rows.specs.Keys.{base}
 use Rattle.core.specs.Sound as sounds
 use Rattle.core.specs.Sound.{amounts, between, sound}
 use Rattle.core.specs.Sums as sums
-use Rattle.core.specs.Sums.{demand-in, flow-out}
+use Rattle.core.specs.Sums.{demand-in, sum-out, flow-out}
 use Rattle.rows.specs.Charges.{own-cost, link-cost}
 use Rattle.core.specs.Tables as tables
 use Rattle.core.specs.Tables.{netted, decided, least, fitting, OutputOf, Keeps, Solves}
+use Rattle.records.specs.Flows.{frames-in}
+use Rattle.records.specs.declared.flows.Flow.{Flow}
 use Rattle.records.specs.declared.Records.{Records}
 use Rattle.core.specs.declared.Kept.{Kept}
 use Rattle.core.specs.declared.Kept.the-variants as kept
@@ -99,15 +102,31 @@ module _ (k : Records) (passes : sound k ≡ true) where
   unfolding told sums.demand-in
   same-demand x = sum-ext (k .services) _ _ (λ i l. ap (only (has x i)) (sym (field-in (k .services) (k .demand) i l))) ∙ sym (demand-sum (told k) (has x))
 
-  same-out : (x : ℕ) → flow-out (k .from) (k .to) (k .load) (k .streams) x ≡ leaving (told k) (told k .load) (has x)
-  unfolding told sums.flow-out leaving
-  same-out x =
-      sum-ext (k .streams) _ _ (λ j l. rw (field-in (k .streams) (k .from) j l, field-in (k .streams) (k .to) j l, field-in (k .streams) (k .load) j l) refl)
+  -- a sum over the streams that run out of a set, and into it, of the records and of the instance
+  sums-out : (f g : ℕ → ℕ) → ((j : ℕ) → j < k .streams → f j ≡ g j) → (x : ℕ) → sum-out (k .from) (k .to) f (k .streams) x ≡ leaving (told k) g (has x)
+  unfolding told sums.sum-out leaving
+  sums-out f g e x = sum-ext (k .streams) _ _ (λ j l. rw (field-in (k .streams) (k .from) j l, field-in (k .streams) (k .to) j l, e j l) refl)
 
-  same-in : (x : ℕ) → flow-out (k .to) (k .from) (k .load) (k .streams) x ≡ entering (told k) (told k .load) (has x)
-  unfolding told sums.flow-out entering
-  same-in x =
-      sum-ext (k .streams) _ _ (λ j l. rw (field-in (k .streams) (k .from) j l, field-in (k .streams) (k .to) j l, field-in (k .streams) (k .load) j l) refl)
+  sums-in : (f g : ℕ → ℕ) → ((j : ℕ) → j < k .streams → f j ≡ g j) → (x : ℕ) → sum-out (k .to) (k .from) f (k .streams) x ≡ entering (told k) g (has x)
+  unfolding told sums.sum-out entering
+  sums-in f g e x = sum-ext (k .streams) _ _ (λ j l. rw (field-in (k .streams) (k .from) j l, field-in (k .streams) (k .to) j l, e j l) refl)
+
+  -- the demand and the frames of a stream
+  same-load : (j : ℕ) → j < k .streams → getD (k .load) j 0 ≡ told k .load j
+  unfolding told
+  same-load j l = sym (field-in (k .streams) (k .load) j l)
+
+  same-frames : (j : ℕ) → j < k .streams → frames-in (getD (k .load) j 0) ≡ frames (told k) j
+  unfolding frames
+  same-frames j l = ap frames-in (same-load j l)
+
+  same-out : (x : ℕ) → flow-out (k .from) (k .to) (k .load) (k .streams) x
+      ≡ record { demand = leaving (told k) (told k .load) (has x); frames = leaving (told k) (frames (told k)) (has x) }
+  same-out x = ap₂ (λ (d f : ℕ). record { demand = d; frames = f }) (sums-out _ _ same-load x) (sums-out _ _ same-frames x)
+
+  same-in : (x : ℕ) → flow-out (k .to) (k .from) (k .load) (k .streams) x
+      ≡ record { demand = entering (told k) (told k .load) (has x); frames = entering (told k) (frames (told k)) (has x) }
+  same-in x = ap₂ (λ (d f : ℕ). record { demand = d; frames = f }) (sums-in _ _ same-load x) (sums-in _ _ same-frames x)
 
   same-node : (c x : ℕ) → netted k .node c x ≡ cabinet-charge (told k) c x
   unfolding told cabinets.own-of
@@ -117,7 +136,7 @@ module _ (k : Records) (passes : sound k ≡ true) where
 
   same-link : (c x : ℕ) → netted k .link c x ≡ link-charge (told k) c x
   unfolding told cabinets.link-of
-  same-link c x = ap₂ (λ (a b : ℕ). link-cost (link-of k c) a b) (same-out x) (same-in x) ∙ sym (charge-by-flows (told k) c x)
+  same-link c x = ap₂ (λ (a b : Flow). link-cost (link-of k c) a b) (same-out x) (same-in x) ∙ sym (charge-by-flows (told k) c x)
 
   -- Their net is the instance's.
   pub same-net : netted k ≡ net (told k)

@@ -15,6 +15,7 @@ use sheet::Sheet;
 use sheet::Stream;
 use subsets::member;
 
+pub mod flows; // flows.rt: what runs through one direction of a link
 mod loading; // loading.rt: the records of an accepted sheet, read into arrays
 
 use loading::blank_records;

@@ -2,10 +2,13 @@
 ghost use mathlib.Core.Path.{_≡_};
 ghost use Prim.Native.Nat.{ℕ, _*_, _≤_, _<_};
 ghost use lib.ListN.{length, getD};
-ghost use Rattle.rows.specs.Charges.{max-sets, all-sums, own-figure, link-figure, demanded, run-out, run-in};
+ghost use Rattle.rows.specs.Charges.{max-sets, all-sums, into-row, own-figure, link-figure, demanded, flow-at, run-out, run-in};
+use crate::INTO;
 use crate::Link;
+use crate::OUT;
 use crate::Own;
 use crate::SETS;
+use records::flows::Flow;
 use subsets::NONE;
 
 // A number of 32 bits, in 64.
@@ -59,17 +62,17 @@ fn own_charge(x: u32, demand: u32, k: Own) -> u64
     priced(demand, k.price)
 }
 
-// What the link above a cabinet charges for so much demand upwards and downwards.
-fn link_charge(up: u32, down: u32, k: Link) -> u64
+// What the link above a cabinet charges for what runs upwards and downwards: the load is tested, the demand is priced.
+fn link_charge(up: Flow, down: Flow, k: Link) -> u64
     ensures { λ n. ⌜ n ≡ link-figure k up down ⌝ }
 {
-    if word(k.up_capacity) < wide(up) {
+    if word(k.up_capacity) < up.load() {
         return NONE;
     }
-    if word(k.down_capacity) < wide(down) {
+    if word(k.down_capacity) < down.load() {
         return NONE;
     }
-    priced(up, k.up_price) + priced(down, k.down_price)
+    priced(up.demand, k.up_price) + priced(down.demand, k.down_price)
 }
 
 // The row of a cabinet alone.
@@ -84,6 +87,19 @@ pub(crate) fn fill_own(row: &mut [u64], sums: &[u32], k: Own)
     }
 }
 
+// What runs for the set x: its demand stands in this row of the sums, its frames in the next.
+fn flow_at(sums: &[u32], row: usize, x: usize) -> Flow
+    requires { ⌜ (row ≤ into-row) × (x < max-sets) × (all-sums ≤ length (now sums)) ⌝ }
+    ensures { λ f. ⌜ f ≡ flow-at (now (sums .entry)) row x ⌝ }
+{
+    let demand = row * SETS + x;
+    let frames = demand + SETS;
+    Flow {
+        demand: sums[demand],
+        frames: sums[frames],
+    }
+}
+
 // What the link above a cabinet charges for every set below size.
 pub(crate) fn link_row(link: &mut [u64], sums: &[u32], k: Link, size: usize)
     requires { ⌜ (size ≤ length (now link)) × (size ≤ max-sets) × (all-sums ≤ length (now sums)) ⌝ }
@@ -91,7 +107,9 @@ pub(crate) fn link_row(link: &mut [u64], sums: &[u32], k: Link, size: usize)
 {
     let mut x = 0;
     while x < size {
-        link[x] = link_charge(sums[SETS + x], sums[2 * SETS + x], k);
+        let up = flow_at(sums, OUT, x);
+        let down = flow_at(sums, INTO, x);
+        link[x] = link_charge(up, down, k);
         x += 1;
     }
 }

@@ -26,8 +26,12 @@ use tables::join_child;
 // How many sets of services there can be.
 pub const SETS: usize = 1 << Sheet::MAX_SERVICES;
 
-// Rows of sums over sets: the demand, what runs out, what runs in. A row takes SETS places.
-pub const SUMS: usize = 3 * SETS;
+// Rows of sums over sets, each of SETS places: the demand; what runs out, by demand and frames; and what runs in, in the same way.
+pub const SUMS: usize = 5 * SETS;
+
+// The row of the demand of what runs out, and of what runs in. The frames stand in the row after it.
+pub const OUT: usize = 1;
+pub const INTO: usize = 3;
 
 // So many digits are the low part of a key.
 pub const LOW_DIGITS: usize = Sheet::MAX_SERVICES / 2;

@@ -6,7 +6,8 @@ use Rattle.subsets.specs.Sets.{has}
 use Rattle.subsets.specs.Costs.{Cost, provided}
 use Rattle.subsets.specs.Inner.Net.{Net}
 use Rattle.sheet.specs.Instance.{Instance}
-use Rattle.embedding.specs.Plan.{admits, link-fits, fee, toll, weight}
+use Rattle.embedding.specs.Limits.{weight}
+use Rattle.embedding.specs.Plan.{admits, link-fits, fee, toll}
 
 module _ (I : Instance) where
   -- the sum of f over the streams from a service for which x holds to one for which it does not

@@ -1,9 +1,10 @@
 -- `link_row` meets its contract.
 use Prim.Native.Nat.{ℕ, _-_, _≤_, _<_}
 use native.Mathlib.Omega.{arith}
-use mathlib.Core.Path.{_≡_}
+use mathlib.Core.Path.{_≡_, ap₂, _∙_}
 use borrow.Author.Needs.{needs}
 use lib.ListN.{length, getD, length-set}
+use Rattle.records.specs.declared.flows.Flow.{Flow}
 use Rattle.rows.specs.Charges.{link-figure, run-out, run-in}
 use Rattle.rows.proofs.Written.{next-written}
 use Rattle.rows.proofs.charges.link_row.Statement.{statement}
@@ -19,32 +20,26 @@ abbrev μ-loop : tie.MeasureT-loop
 abbrev at-loop-before-link-charge : tie.After-link-charge Inv-loop μ-loop → tie.At-loop Inv-loop μ-loop
 at-loop-before-link-charge c = c .before .before .before .before
 
+abbrev flow-at-before-link-charge : tie.After-link-charge Inv-loop μ-loop → tie.After-flow-at Inv-loop μ-loop
+flow-at-before-link-charge c = c .before .before
+
+abbrev start-before-flow-at : tie.After-flow-at Inv-loop μ-loop → tie.Start Inv-loop μ-loop
+start-before-flow-at c = c .before .before .before .before .before
+
+abbrev start-before-in-loop : tie.In-loop Inv-loop μ-loop → tie.Start Inv-loop μ-loop
+start-before-in-loop c = c .before .before .before .before
+
 abbrev start-before-link-charge : tie.After-link-charge Inv-loop μ-loop → tie.Start Inv-loop μ-loop
 start-before-link-charge c = c .before .before .before .before .before .before .before
 
 loop-holds : tie.Need-loop-holds Inv-loop μ-loop
 loop-holds c = (search needs, search needs, λ d l. absurd (omega arith))
 
-add-link-charge : tie.Need-add-link-charge Inv-loop μ-loop
-add-link-charge c = search needs
+flow-at-requires : tie.Need-flow-at-requires Inv-loop μ-loop
+flow-at-requires c κs = (omega arith, omega arith, start-before-in-loop c .pre .2)
 
-mul-link-charge : tie.Need-mul-link-charge Inv-loop μ-loop
-mul-link-charge c = search needs
-
-shared-slice-read-link-charge : tie.Need-shared-slice-read-link-charge Inv-loop μ-loop
-shared-slice-read-link-charge c = search needs
-
-mul-link-charge-2 : tie.Need-mul-link-charge-2 Inv-loop μ-loop
-mul-link-charge-2 c = search needs
-
-add-link-charge-2 : tie.Need-add-link-charge-2 Inv-loop μ-loop
-add-link-charge-2 c = search needs
-
-mul-link-charge-3 : tie.Need-mul-link-charge-3 Inv-loop μ-loop
-mul-link-charge-3 c = search needs
-
-shared-slice-read-link-charge-2 : tie.Need-shared-slice-read-link-charge-2 Inv-loop μ-loop
-shared-slice-read-link-charge-2 c = search needs
+flow-at-requires-2 : tie.Need-flow-at-requires-2 Inv-loop μ-loop
+flow-at-requires-2 c κs = (omega arith, omega arith, start-before-flow-at c .pre .2)
 
 link-charge-requires : tie.Need-link-charge-requires Inv-loop μ-loop
 link-charge-requires c κs = search needs
@@ -65,7 +60,12 @@ loop-again : tie.Need-loop-again Inv-loop μ-loop
 loop-again c =
     let a = start-before-link-charge c .args in
     let l = at-loop-before-link-charge c .loop in
-    (omega arith, simp length-set (l .inv .1), next-written (l .link) (l .x) (c .link-charge .result) (λ d. link-figure (a .k) (run-out (a .sums .now) d) (run-in (a .sums .now) d)) (omega arith) (c .link-charge .ensures) (l .inv .2))
+    (
+      omega arith,
+      simp length-set (l .inv .1),
+      next-written (l .link) (l .x) (c .link-charge .result) (λ d. link-figure (a .k) (run-out (a .sums .now) d) (run-in (a .sums .now) d)) (omega arith)
+      (c .link-charge .ensures ∙ ap₂ (λ (u v : Flow). link-figure (a .k) u v) (flow-at-before-link-charge c .flow-at .ensures) (c .before .flow-at2 .ensures)) (l .inv .2),
+    )
 
 same-length : tie.Need-same-length Inv-loop μ-loop
 same-length c = search needs
@@ -80,13 +80,8 @@ link-row-spec =
     Inv-loop
     μ-loop
     loop-holds
-    add-link-charge
-    mul-link-charge
-    shared-slice-read-link-charge
-    mul-link-charge-2
-    add-link-charge-2
-    mul-link-charge-3
-    shared-slice-read-link-charge-2
+    flow-at-requires
+    flow-at-requires-2
     link-charge-requires
     mul-link
     slice-write-link
