@@ -8,14 +8,16 @@ use Rattle.finite.specs.Below.{only}
 use Rattle.finite.proofs.Booleans.{both, both-l, both-r}
 use Rattle.sheet.specs.Limits.{max-cabinets, max-streams}
 use Rattle.sheet.specs.Instance.{Instance, WellFormed}
+use Rattle.records.specs.Flows.{load-of}
 use Rattle.embedding.specs.Road.{up, down}
+use Rattle.embedding.specs.Limits.{weight}
 use Rattle.embedding.specs.Plan.{in-range, carried}
 use Rattle.embedding.specs.Inner.Charge.{leaving, entering}
 use Rattle.embedding.proofs.Reckoning.{leaving-weight, entering-weight}
 use Rattle.embedding.proofs.Mappings.{range-test}
 use Rattle.embedding.proofs.Loads.{carried-up, carried-down}
 use Rattle.checker.specs.Loads.{has-link, is-under, loads}
-use Rattle.checker.proofs.Flows.{up-load, down-load, up-all, down-all}
+use Rattle.checker.proofs.Flows.{up-flow, down-flow, up-all, down-all}
 
 module _ (I : Instance) where
   -- what the test of a link shows
@@ -43,15 +45,15 @@ module _ (I : Instance) where
     no-load h = rw h refl
 
     -- the loads of a link are those of all streams
-    pub all-loads : has-link I c ≡ true → record { up = up-load I π c (I .q); down = down-load I π c (I .q) } ≡ loads I π c
+    pub all-loads : has-link I c ≡ true → record { up = load-of (up-flow I π c (I .q)); down = load-of (down-flow I π c (I .q)) } ≡ loads I π c
     unfolding loads only leaving entering
     all-loads h =
         rw h (ap₂ (λ (m n : ℕ). record { up = m; down = n }) (sym (leaving-weight I (λ i. is-under I c (π i)))) (sym (entering-weight I (λ i. is-under I c (π i)))))
 
     -- on the road of a well-formed instance, under a plan whose places are all cabinets: what the streams take of each direction's capacity
     pub loads-carried : WellFormed I → in-range I π ≡ true → 0 < c → c < I .s → loads I π c ≡ record { up = carried I π (up c); down = carried I π (down c) }
+    unfolding loads only leaving entering
     loads-carried W range z h =
-        sym (all-loads (has-its-link W c z h))
-        ∙ ap₂ (λ (m n : ℕ). record { up = m; down = n })
-        (up-all I π W c ∙ sym (carried-up I W π (range-test I π .0 range) c z ∙ leaving-weight I _))
-        (down-all I π W c ∙ sym (carried-down I W π (range-test I π .0 range) c z ∙ entering-weight I _))
+        rw (has-its-link W c z h) (ap₂ (λ (m n : ℕ). record { up = m; down = n })
+        (up-all I π W (weight I) c ∙ sym (carried-up I W π (range-test I π .0 range) c z))
+        (down-all I π W (weight I) c ∙ sym (carried-down I W π (range-test I π .0 range) c z)))

@@ -6,7 +6,7 @@ use Rattle.finite.specs.Below.{only}
 use Rattle.subsets.specs.Tree.{under}
 use Rattle.sheet.specs.Limits.{max-cabinets, max-streams}
 use Rattle.sheet.specs.Instance.{Instance}
-use Rattle.embedding.specs.Plan.{weight}
+use Rattle.embedding.specs.Limits.{weight}
 use Rattle.embedding.specs.Inner.Charge.{leaving, entering}
 use Rattle.checker.specs.declared.loads.Loads.{Loads}
 

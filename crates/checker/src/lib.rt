@@ -5,7 +5,7 @@ ghost use Rattle.checker.specs.Check.{checked};
 mod cabinets; // cabinets.rt: what the plan puts on cabinets, and what they charge
 mod links; // links.rt: the walk over the links, and what they charge
 pub mod loads; // loads.rt: what the plan's streams put on one link
-mod numbers; // numbers.rt: numbers of 16 bits, widened
+mod numbers; // numbers.rt: numbers widened
 
 use cabinets::are_bars_kept;
 use cabinets::are_cabinets_kept;

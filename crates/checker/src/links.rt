@@ -7,16 +7,18 @@ ghost use Rattle.embedding.specs.Plan.{place, cabinets-cost};
 ghost use Rattle.checker.specs.Inner.Records.{Placed};
 ghost use Rattle.checker.specs.Inner.Walk.{walked};
 use crate::Checked;
-use crate::loads::leaving;
+use crate::loads::leaves;
 use crate::loads::mark_under;
+use crate::loads::with_stream;
 use crate::numbers::index;
-use crate::numbers::wide;
+use crate::numbers::to_u64;
 use records::Records;
 use records::field;
+use records::flows::Flow;
 use sheet::Cabinet;
 use sheet::Refusal;
 
-// A direction of the link above a cabinet carries more than its capacity.
+// A direction of the link above a cabinet has a load above its capacity.
 fn is_overfull(link: Cabinet, up: u64, down: u64) -> bool
     ensures { λ b. ⌜ b ≡ ltb (link .«up_capacity») up || ltb (link .«down_capacity») down ⌝ }
 {
@@ -41,21 +43,21 @@ pub(crate) fn walk_links(records: Records, plan: &[u16], at_cabinets: u64) -> Ch
         }
         let link = records.cabinet(c);
         let marks = mark_under(records, c);
-        let mut up = 0;
-        let mut down = 0;
+        let mut up = Flow { demand: 0, frames: 0 };
+        let mut down = Flow { demand: 0, frames: 0 };
         let mut j = 0;
         while j < streams {
             let a = index(field(&from, streams, j));
             let b = index(field(&to, streams, j));
-            let demand = wide(field(&load, streams, j));
-            up += leaving(&marks, plan, a, b, demand);
-            down += leaving(&marks, plan, b, a, demand);
-            if is_overfull(link, up, down) {
+            let demand = field(&load, streams, j);
+            up = with_stream(up, leaves(&marks, plan, a, b), demand);
+            down = with_stream(down, leaves(&marks, plan, b, a), demand);
+            if is_overfull(link, up.load(), down.load()) {
                 break 'walk Checked::Refused(Refusal::PlanWriter(16));
             }
             j += 1;
         }
-        cost += up * link.up_price + down * link.down_price;
+        cost += to_u64(up.demand) * link.up_price + to_u64(down.demand) * link.down_price;
         c += 1;
     }
 }

@@ -1,24 +1,25 @@
 // What a plan's streams put on one link: the link above cabinet c carries the streams that leave the cabinets under c upwards, and
-// those that enter them downwards.
+// those that enter them downwards. Their framing is part of the load.
 ghost use mathlib.Core.Path.{_≡_};
-ghost use mathlib.Core.Bool.{_&&_, not, false};
-ghost use Prim.Native.Nat.{_≤_, _<_};
+ghost use mathlib.Core.Bool.{false};
+ghost use Prim.Native.Nat.{_^_, _≤_, _<_};
 ghost use lib.ListN.{getD};
-ghost use Rattle.finite.specs.Below.{only};
 ghost use Rattle.sheet.specs.Limits.{max-cabinets};
 ghost use Rattle.records.specs.Told.{told};
 ghost use Rattle.embedding.specs.Plan.{place};
 ghost use Rattle.checker.specs.Loads.{has-link, loads};
 ghost use Rattle.checker.specs.Inner.Records.{Marked};
+ghost use Rattle.checker.specs.Inner.Flows.{crosses, joined};
 use crate::cabinets::place_of;
 use crate::numbers::index;
-use crate::numbers::wide;
+use crate::numbers::to_u32;
 use records::Records;
 use records::field;
+use records::flows::Flow;
+use records::flows::frames_of;
 use sheet::Sheet;
-use subsets::only_if;
 
-// What the streams put on each direction of a link.
+// The load of each direction of a link.
 pub struct Loads {
     pub up: u64,
     pub down: u64,
@@ -51,13 +52,29 @@ pub(crate) fn mark_under(records: Records, c: usize) -> [bool; Sheet::MAX_CABINE
     marks
 }
 
-// The demand of a stream where it leaves the marked cabinets, else 0.
-pub(crate) fn leaving(marks: &[bool], plan: &[u16], from: usize, to: usize, demand: u64) -> u64
-    ensures { λ n. ⌜ n ≡ only (getD (now (marks .entry)) (place (now (plan .entry)) from) false && not (getD (now (marks .entry)) (place (now (plan .entry)) to) false)) demand ⌝ }
+// Whether a stream leaves the marked cabinets.
+pub(crate) fn leaves(marks: &[bool], plan: &[u16], from: usize, to: usize) -> bool
+    ensures { λ b. ⌜ b ≡ crosses (now (marks .entry)) (place (now (plan .entry)) from) (place (now (plan .entry)) to) ⌝ }
 {
     let starts = is_marked(marks, place_of(plan, from));
     let ends = is_marked(marks, place_of(plan, to));
-    only_if(starts & !ends, demand)
+    starts & !ends
+}
+
+// A flow with a stream of so much demand more, where it is in it.
+pub(crate) fn with_stream(flow: Flow, is_in: bool, demand: u16) -> Flow
+    requires { ⌜ (flow .demand < 2 ^ 31) × (flow .frames < 2 ^ 31) ⌝ }
+    ensures { λ f. ⌜ f ≡ joined flow «is_in» demand ⌝ }
+{
+    if !is_in {
+        return flow;
+    }
+    let sum = flow.demand + to_u32(demand);
+    let frames = flow.frames + to_u32(frames_of(demand));
+    Flow {
+        demand: sum,
+        frames: frames,
+    }
 }
 
 // Whether there is a link above c, in records whose counts are within the limits.
@@ -82,16 +99,19 @@ pub fn link_loads(records: Records, plan: &[u16], c: usize) -> Loads
     let from = records.from;
     let to = records.to;
     let load = records.load;
-    let mut up = 0;
-    let mut down = 0;
+    let mut up = Flow { demand: 0, frames: 0 };
+    let mut down = Flow { demand: 0, frames: 0 };
     let mut j = 0;
     while j < records.streams {
         let a = index(field(&from, records.streams, j));
         let b = index(field(&to, records.streams, j));
-        let demand = wide(field(&load, records.streams, j));
-        up += leaving(&marks, plan, a, b, demand);
-        down += leaving(&marks, plan, b, a, demand);
+        let demand = field(&load, records.streams, j);
+        up = with_stream(up, leaves(&marks, plan, a, b), demand);
+        down = with_stream(down, leaves(&marks, plan, b, a), demand);
         j += 1;
     }
-    Loads { up: up, down: down }
+    Loads {
+        up: up.load(),
+        down: down.load(),
+    }
 }

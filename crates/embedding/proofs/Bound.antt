@@ -14,6 +14,7 @@ use Rattle.subsets.specs.Inner.Net.{charge}
 use Rattle.subsets.proofs.Provided.{provided-some}
 use Rattle.subsets.proofs.Bound as bounds
 use Rattle.sheet.specs.Instance.{Instance, WellFormed}
+use Rattle.embedding.specs.Limits.{frames}
 use Rattle.embedding.specs.Plan.{demand-of, toll, in-range, cabinets-cost, plan-cost}
 use Rattle.embedding.specs.Inner.Charge.{leaving, entering, cabinet-charge, link-charge, net}
 use Rattle.embedding.proofs.Reckoning.{demand-sum, cabinets-cost-sum, charge-by-demand, toll-by-price}
@@ -29,6 +30,11 @@ module _ (I : Instance) (W : WellFormed I) where
   -- the demand of a set is at most 100,000
   pub demand-le : (x : ℕ → Bool) → demand-of I x ≤ 10 * 10000
   demand-le x = omega (arith, demand-sum I x, some-of (I .r) 10 10000 x (I .demand) (W .services) (W .demands))
+
+  -- a stream has one frame at most
+  pub frames-le : (j : ℕ) → frames I j ≤ 1
+  unfolding frames
+  frames-le j = only-le (ltb 0 (I .load j)) 1
 
   -- what leaves a set, where f is at most m
   pub leaving-le : (m : ℕ) (f : ℕ → ℕ) → ((j : ℕ) → f j ≤ m) → (x : ℕ → Bool) → leaving I f x ≤ 100 * m

@@ -1,34 +1,141 @@
--- `link_loads` meets its contract. The invariant: the loads are those of the streams passed, each below 2^16.
-use Prim.Native.Nat.{ℕ, _+_, _-_, _*_, _≤_, _<_}
+-- `link_loads` meets its contract. The invariant: the flows are those of the streams passed, and small.
+use Prim.Native.Nat.{ℕ, _+_, _-_, _≤_, _<_}
 use native.Mathlib.Omega.{arith}
-use mathlib.Core.Path.{_≡_, sym, ap, ap₂, _∙_}
+use mathlib.Core.Path.{_≡_, sym, ap, ap₂, _∙_, subst}
 use borrow.Author.Needs.{needs}
-use lib.ListN.{length, getD}
-use mathlib.Core.Bool.{true, false, _&&_, not}
+use lib.ListN.{length}
+use mathlib.Core.Bool.{true}
 use borrow.Author.Tests.{not-true, not-false}
-use Rattle.finite.proofs.Sums.{sum-start, only-le}
 use Rattle.sheet.specs.Limits.{max-streams}
+use Rattle.records.specs.Flows.{load-of}
+use Rattle.records.specs.declared.flows.Flow.{Flow}
 use Rattle.records.specs.Told.{told}
 use Rattle.embedding.specs.Plan.{place}
 use Rattle.checker.specs.Loads.{has-link}
 use Rattle.checker.proofs.Told.{counts, from-at, to-at, load-at}
 use Rattle.checker.proofs.Carried.{link-there, no-load, all-loads}
-use Rattle.checker.proofs.Flows.{up-load, down-load, up-next, down-next}
+use Rattle.checker.proofs.Flows.{Small, joined-small, rises, falls, up-flow, down-flow, none-yet, one-more, up-told, down-told}
 use Rattle.checker.proofs.loads.link_loads.Statement.{statement}
 use Rattle.checker.proofs.loads.link_loads.Tie as tie
 
 abbrev Inv-loop : tie.InvT-loop
-Inv-loop records plan c marks from to load up₀ down₀ j₀ up down j = (j ≤ records .streams) × (up ≡ up-load (told records) (place plan) c j) × (down ≡ down-load (told records) (place plan) c j) × (up ≤ j * 65536) × (down ≤ j * 65536)
+Inv-loop records plan c marks from to load up₀ down₀ j₀ up down j = (j ≤ records .streams) × (up ≡ up-flow (told records) (place plan) c j) × (down ≡ down-flow (told records) (place plan) c j) × Small j up × Small j down
 
 abbrev μ-loop : tie.MeasureT-loop
 μ-loop records plan c marks from to load up₀ down₀ j₀ up down j = records .streams - j
+
+-- the nodes of the function that its needs reach back to
+abbrev at-loop-before-field3 : tie.After-field3 Inv-loop μ-loop → tie.At-loop Inv-loop μ-loop
+at-loop-before-field3 c = c .before .before .before .before .before .before .before .before .before .before
+
+abbrev at-loop-before-leaves : tie.After-leaves Inv-loop μ-loop → tie.At-loop Inv-loop μ-loop
+at-loop-before-leaves c = c .before .before .before .before .before .before .before .before .before .before .before .before
+
+abbrev at-loop-before-leaves2 : tie.After-leaves2 Inv-loop μ-loop → tie.At-loop Inv-loop μ-loop
+at-loop-before-leaves2 c = c .before .before .before .before .before .before .before .before .before .before .before .before .before .before .before
+
+abbrev at-loop-before-load4 : tie.After-load4 Inv-loop μ-loop → tie.At-loop Inv-loop μ-loop
+at-loop-before-load4 c = c .before .before .before .before
+
+abbrev at-loop-before-then2 : tie.Then2 Inv-loop μ-loop → tie.At-loop Inv-loop μ-loop
+at-loop-before-then2 c = c .before .before
+
+abbrev at-loop-before-with-stream : tie.After-with-stream Inv-loop μ-loop → tie.At-loop Inv-loop μ-loop
+at-loop-before-with-stream c = c .before .before .before .before .before .before .before .before .before .before .before .before .before
+
+abbrev at-loop-before-with-stream2 : tie.After-with-stream2 Inv-loop μ-loop → tie.At-loop Inv-loop μ-loop
+at-loop-before-with-stream2 c = c .before .before .before .before .before .before .before .before .before .before .before .before .before .before .before .before
+
+abbrev else1-before-load4 : tie.After-load4 Inv-loop μ-loop → tie.Else1 Inv-loop μ-loop
+else1-before-load4 c = c .before .before .before .before .before .before .before .before .before
+
+abbrev else1-before-then2 : tie.Then2 Inv-loop μ-loop → tie.Else1 Inv-loop μ-loop
+else1-before-then2 c = c .before .before .before .before .before .before .before
+
+abbrev else2-before-load4 : tie.After-load4 Inv-loop μ-loop → tie.Else2 Inv-loop μ-loop
+else2-before-load4 c = c .before .before
+
+abbrev field-before-field3 : tie.After-field3 Inv-loop μ-loop → tie.After-field Inv-loop μ-loop
+field-before-field3 c = c .before .before .before .before .before .before
+
+abbrev field2-before-field3 : tie.After-field3 Inv-loop μ-loop → tie.After-field2 Inv-loop μ-loop
+field2-before-field3 c = c .before .before .before
+
+abbrev field3-before-with-stream : tie.After-with-stream Inv-loop μ-loop → tie.After-field3 Inv-loop μ-loop
+field3-before-with-stream c = c .before .before .before
+
+abbrev field3-before-with-stream2 : tie.After-with-stream2 Inv-loop μ-loop → tie.After-field3 Inv-loop μ-loop
+field3-before-with-stream2 c = c .before .before .before .before .before .before
+
+abbrev index-before-field3 : tie.After-field3 Inv-loop μ-loop → tie.After-index Inv-loop μ-loop
+index-before-field3 c = c .before .before .before .before .before
+
+abbrev index2-before-field3 : tie.After-field3 Inv-loop μ-loop → tie.After-index2 Inv-loop μ-loop
+index2-before-field3 c = c .before .before
+
+abbrev mark-under-before-marks : tie.After-marks Inv-loop μ-loop → tie.After-mark-under Inv-loop μ-loop
+mark-under-before-marks c = c .before .before .before .before .before .before .before .before .before .before .before .before .before .before .before
+
+abbrev mark-under-before-marks2 : tie.After-marks2 Inv-loop μ-loop → tie.After-mark-under Inv-loop μ-loop
+mark-under-before-marks2 c = c .before .before .before .before .before .before .before .before .before .before .before .before .before .before .before .before .before .before
+
+abbrev mark-under-before-with-stream : tie.After-with-stream Inv-loop μ-loop → tie.After-mark-under Inv-loop μ-loop
+mark-under-before-with-stream c = c .before .before .before .before .before .before .before .before .before .before .before .before .before .before .before .before .before
+
+abbrev mark-under-before-with-stream2 : tie.After-with-stream2 Inv-loop μ-loop → tie.After-mark-under Inv-loop μ-loop
+mark-under-before-with-stream2 c = c .before .before .before .before .before .before .before .before .before .before .before .before .before .before .before .before .before .before .before .before
+
+abbrev shared-slice-known-before-from2 : tie.After-from2 Inv-loop μ-loop → tie.After-shared-slice-known Inv-loop μ-loop
+shared-slice-known-before-from2 c = c .before .before .before .before .before .before .before .before .before .before
+
+abbrev shared-slice-known-before-load2 : tie.After-load2 Inv-loop μ-loop → tie.After-shared-slice-known Inv-loop μ-loop
+shared-slice-known-before-load2 c = c .before .before .before .before .before .before .before .before .before .before .before .before .before .before .before .before
+
+abbrev shared-slice-known-before-to2 : tie.After-to2 Inv-loop μ-loop → tie.After-shared-slice-known Inv-loop μ-loop
+shared-slice-known-before-to2 c = c .before .before .before .before .before .before .before .before .before .before .before .before .before
+
+abbrev start-before-else1 : tie.Else1 Inv-loop μ-loop → tie.Start Inv-loop μ-loop
+start-before-else1 c = c .before .before .before
+
+abbrev start-before-field3 : tie.After-field3 Inv-loop μ-loop → tie.Start Inv-loop μ-loop
+start-before-field3 c = c .before .before .before .before .before .before .before .before .before .before .before .before .before .before .before .before .before .before
+
+abbrev start-before-load : tie.After-load Inv-loop μ-loop → tie.Start Inv-loop μ-loop
+start-before-load c = c .before .before .before .before .before .before .before
+
+abbrev start-before-load4 : tie.After-load4 Inv-loop μ-loop → tie.Start Inv-loop μ-loop
+start-before-load4 c = c .before .before .before .before .before .before .before .before .before .before .before .before
+
+abbrev start-before-then1 : tie.Then1 Inv-loop μ-loop → tie.Start Inv-loop μ-loop
+start-before-then1 c = c .before .before .before
+
+abbrev start-before-then2 : tie.Then2 Inv-loop μ-loop → tie.Start Inv-loop μ-loop
+start-before-then2 c = c .before .before .before .before .before .before .before .before .before .before
+
+abbrev start-before-with-stream : tie.After-with-stream Inv-loop μ-loop → tie.Start Inv-loop μ-loop
+start-before-with-stream c = c .before .before .before .before .before .before .before .before .before .before .before .before .before .before .before .before .before .before .before .before .before
+
+abbrev start-before-with-stream2 : tie.After-with-stream2 Inv-loop μ-loop → tie.Start Inv-loop μ-loop
+start-before-with-stream2 c = c .before .before .before .before .before .before .before .before .before .before .before .before .before .before .before .before .before .before .before .before .before .before .before .before
+
+abbrev then2-before-leaves : tie.After-leaves Inv-loop μ-loop → tie.Then2 Inv-loop μ-loop
+then2-before-leaves c = c .before .before .before .before .before .before .before .before .before .before
+
+abbrev then2-before-leaves2 : tie.After-leaves2 Inv-loop μ-loop → tie.Then2 Inv-loop μ-loop
+then2-before-leaves2 c = c .before .before .before .before .before .before .before .before .before .before .before .before .before
+
+abbrev then2-before-with-stream2 : tie.After-with-stream2 Inv-loop μ-loop → tie.Then2 Inv-loop μ-loop
+then2-before-with-stream2 c = c .before .before .before .before .before .before .before .before .before .before .before .before .before .before
+
+abbrev with-stream-before-with-stream2 : tie.After-with-stream2 Inv-loop μ-loop → tie.After-with-stream Inv-loop μ-loop
+with-stream-before-with-stream2 c = c .before .before .before
 
 has-link-requires : tie.Need-has-link-requires Inv-loop μ-loop
 has-link-requires c κs = search needs
 
 returns : tie.Need-returns Inv-loop μ-loop
 returns c =
-    let a = c .before .before .before .args in
+    let a = start-before-then1 c .args in
     no-load (told (a .records)) (place (a .plan .now)) (a .c) (sym (c .before .has-link .ensures) ∙ not-true _ (c .if1 .taken))
 
 -- the streams' arrays have their length
@@ -38,25 +145,29 @@ columns : (c : tie.After-shared-slice-known Inv-loop μ-loop) →
 columns c = (search needs, search needs, search needs)
 
 -- there is a link
-linked : (c : tie.Else1 Inv-loop μ-loop) → has-link (told (c .before .before .before .args .records)) (c .before .before .before .args .c) ≡ true
+linked : (c : tie.Else1 Inv-loop μ-loop) → has-link (told (start-before-else1 c .args .records)) (start-before-else1 c .args .c) ≡ true
 linked c = sym (c .before .has-link .ensures) ∙ not-false _ (c .if1 .left)
 
 mark-under-requires : tie.Need-mark-under-requires Inv-loop μ-loop
 mark-under-requires c κs =
-    let t = link-there (told (c .before .before .before .args .records)) (c .before .before .before .args .c) (linked c) in
+    let t = link-there (told (start-before-else1 c .args .records)) (start-before-else1 c .args .c) (linked c) in
     (t .0, t .1, t .2)
 
 loop-holds : tie.Need-loop-holds Inv-loop μ-loop
-loop-holds c = (search needs, sum-start _, sum-start _, search needs, search needs)
+loop-holds c =
+    let a = start-before-load c .args in
+    let I = told (a .records) in
+    let π = place (a .plan .now) in
+    (omega arith, none-yet I π (rises I π (a .c)), none-yet I π (falls I π (a .c)), (omega arith, omega arith), (omega arith, omega arith))
 
 -- the stream is there, within the limit
-stream-there : (c : tie.Then2 Inv-loop μ-loop) → c .before .before .loop .j < max-streams
+stream-there : (c : tie.Then2 Inv-loop μ-loop) → at-loop-before-then2 c .loop .j < max-streams
 stream-there c =
-    let a = c .before .before .before .before .before .before .before .before .before .before .args in
-    omega (arith, c .if2 .taken, counts (a .records) .2, link-there (told (a .records)) (a .c) (linked (c .before .before .before .before .before .before .before)) .3)
+    let a = start-before-then2 c .args in
+    omega (arith, c .if2 .taken, counts (a .records) .2, link-there (told (a .records)) (a .c) (linked ((else1-before-then2 c))) .3)
 
 slice-aggregate-field : tie.Need-slice-aggregate-field Inv-loop μ-loop
-slice-aggregate-field c = sym (columns (c .before .before .before .before .before .before .before .before .before .before) .0)
+slice-aggregate-field c = sym (columns ((shared-slice-known-before-from2 c)) .0)
 
 field-requires : tie.Need-field-requires Inv-loop μ-loop
 field-requires c κs = search needs
@@ -65,7 +176,7 @@ index-requires : tie.Need-index-requires Inv-loop μ-loop
 index-requires c κs = search needs
 
 slice-aggregate-field-2 : tie.Need-slice-aggregate-field-2 Inv-loop μ-loop
-slice-aggregate-field-2 c = sym (columns (c .before .before .before .before .before .before .before .before .before .before .before .before .before) .1)
+slice-aggregate-field-2 c = sym (columns ((shared-slice-known-before-to2 c)) .1)
 
 field-requires-2 : tie.Need-field-requires-2 Inv-loop μ-loop
 field-requires-2 c κs = search needs
@@ -74,89 +185,89 @@ index-requires-2 : tie.Need-index-requires-2 Inv-loop μ-loop
 index-requires-2 c κs = search needs
 
 slice-aggregate-field-3 : tie.Need-slice-aggregate-field-3 Inv-loop μ-loop
-slice-aggregate-field-3 c = sym (columns (c .before .before .before .before .before .before .before .before .before .before .before .before .before .before .before .before) .2)
+slice-aggregate-field-3 c = sym (columns ((shared-slice-known-before-load2 c)) .2)
 
 field-requires-3 : tie.Need-field-requires-3 Inv-loop μ-loop
 field-requires-3 c κs = search needs
 
-wide-requires : tie.Need-wide-requires Inv-loop μ-loop
-wide-requires c κs = search needs
+-- its ends and its demand
+from-is : (c : tie.After-field3 Inv-loop μ-loop) → index-before-field3 c .index .result ≡ told (start-before-field3 c .args .records) .from (at-loop-before-field3 c .loop .j)
+from-is c = index-before-field3 c .index .ensures ∙ field-before-field3 c .field .ensures ∙ from-at (start-before-field3 c .args .records) (at-loop-before-field3 c .loop .j)
 
--- the ends of this stream, and its demand
-from-is : (c : tie.After-wide Inv-loop μ-loop) → c .before .before .before .before .before .before .index .result ≡ told (c .before .before .before .before .before .before .before .before .before .before .before .before .before .before .before .before .before .before .before .args .records) .from (c .before .before .before .before .before .before .before .before .before .before .before .loop .j)
-from-is c = c .before .before .before .before .before .before .index .ensures ∙ c .before .before .before .before .before .before .before .field .ensures ∙ from-at (c .before .before .before .before .before .before .before .before .before .before .before .before .before .before .before .before .before .before .before .args .records) (c .before .before .before .before .before .before .before .before .before .before .before .loop .j)
+to-is : (c : tie.After-field3 Inv-loop μ-loop) → index2-before-field3 c .index2 .result ≡ told (start-before-field3 c .args .records) .to (at-loop-before-field3 c .loop .j)
+to-is c = index2-before-field3 c .index2 .ensures ∙ field2-before-field3 c .field2 .ensures ∙ to-at (start-before-field3 c .args .records) (at-loop-before-field3 c .loop .j)
 
-to-is : (c : tie.After-wide Inv-loop μ-loop) → c .before .before .before .index2 .result ≡ told (c .before .before .before .before .before .before .before .before .before .before .before .before .before .before .before .before .before .before .before .args .records) .to (c .before .before .before .before .before .before .before .before .before .before .before .loop .j)
-to-is c = c .before .before .before .index2 .ensures ∙ c .before .before .before .before .field2 .ensures ∙ to-at (c .before .before .before .before .before .before .before .before .before .before .before .before .before .before .before .before .before .before .before .args .records) (c .before .before .before .before .before .before .before .before .before .before .before .loop .j)
+demand-is : (c : tie.After-field3 Inv-loop μ-loop) → c .field3 .result ≡ told (start-before-field3 c .args .records) .load (at-loop-before-field3 c .loop .j)
+demand-is c = c .field3 .ensures ∙ load-at (start-before-field3 c .args .records) (at-loop-before-field3 c .loop .j)
 
-demand-is : (c : tie.After-wide Inv-loop μ-loop) → c .wide .result ≡ told (c .before .before .before .before .before .before .before .before .before .before .before .before .before .before .before .before .before .before .before .args .records) .load (c .before .before .before .before .before .before .before .before .before .before .before .loop .j)
-demand-is c = c .wide .ensures .0 ∙ c .before .field3 .ensures ∙ load-at (c .before .before .before .before .before .before .before .before .before .before .before .before .before .before .before .before .before .before .before .args .records) (c .before .before .before .before .before .before .before .before .before .before .before .loop .j)
+slice-aggregate-leaves : tie.Need-slice-aggregate-leaves Inv-loop μ-loop
+slice-aggregate-leaves c = sym (mark-under-before-marks c .mark-under .ensures .size)
 
-slice-aggregate-leaving : tie.Need-slice-aggregate-leaving Inv-loop μ-loop
-slice-aggregate-leaving c = sym (c .before .before .before .before .before .before .before .before .before .before .before .before .before .before .before .before .mark-under .ensures .size)
+leaves-requires : tie.Need-leaves-requires Inv-loop μ-loop
+leaves-requires c κs = search needs
 
-leaving-requires : tie.Need-leaving-requires Inv-loop μ-loop
-leaving-requires c κs = search needs
+with-stream-requires : tie.Need-with-stream-requires Inv-loop μ-loop
+with-stream-requires c κs = (omega (arith, at-loop-before-leaves c .loop .inv .3 .0, stream-there ((then2-before-leaves c))), omega (arith, at-loop-before-leaves c .loop .inv .3 .1, stream-there ((then2-before-leaves c))))
 
--- the load upwards with this stream
-up-now : (c : tie.After-leaving Inv-loop μ-loop) →
-    let a = c .before .before .before .before .before .before .before .before .before .before .before .before .before .before .before .before .before .before .before .before .before .args in
-    c .before .before .before .before .before .before .before .before .before .before .before .before .before .loop .up + c .leaving .result ≡ up-load (told (a .records)) (place (a .plan .now)) (a .c) (c .before .before .before .before .before .before .before .before .before .before .before .before .before .loop .j + 1)
+slice-aggregate-leaves-2 : tie.Need-slice-aggregate-leaves-2 Inv-loop μ-loop
+slice-aggregate-leaves-2 c = sym (mark-under-before-marks2 c .mark-under .ensures .size)
+
+leaves-requires-2 : tie.Need-leaves-requires-2 Inv-loop μ-loop
+leaves-requires-2 c κs = search needs
+
+with-stream-requires-2 : tie.Need-with-stream-requires-2 Inv-loop μ-loop
+with-stream-requires-2 c κs = (omega (arith, at-loop-before-leaves2 c .loop .inv .4 .0, stream-there ((then2-before-leaves2 c))), omega (arith, at-loop-before-leaves2 c .loop .inv .4 .1, stream-there ((then2-before-leaves2 c))))
+
+-- the flow upwards with this stream
+up-now : (c : tie.After-with-stream Inv-loop μ-loop) → c .with-stream .result ≡ up-flow (told (start-before-with-stream c .args .records)) (place (start-before-with-stream c .args .plan .now)) (start-before-with-stream c .args .c) (at-loop-before-with-stream c .loop .j + 1)
 up-now c =
-    let a = c .before .before .before .before .before .before .before .before .before .before .before .before .before .before .before .before .before .before .before .before .before .args in
-    let t = c .before .before in
-    up-next (told (a .records)) (place (a .plan .now)) (c .before .before .before .before .before .before .before .before .before .before .before .before .before .before .before .before .before .mark-under .ensures) (from-is t) (to-is t) (demand-is t) (c .before .before .before .before .before .before .before .before .before .before .before .before .before .loop .inv .1) (c .leaving .ensures)
+    let a = start-before-with-stream c .args in
+    let t = (field3-before-with-stream c) in
+    let I = told (a .records) in
+    let π = place (a .plan .now) in
+    one-more I π (rises I π (a .c)) (at-loop-before-with-stream c .loop .j) (field3-before-with-stream c .field3 .result) (c .before .leaves .result) (at-loop-before-with-stream c .loop .up) (c .with-stream .result) (c .before .leaves .ensures ∙ up-told I π (mark-under-before-with-stream c .mark-under .ensures) (from-is t) (to-is t)) (demand-is t) (at-loop-before-with-stream c .loop .inv .1) (c .with-stream .ensures)
 
--- what it adds is a number of 16 bits
-up-small : (c : tie.After-leaving Inv-loop μ-loop) → c .leaving .result < 65536
-up-small c =
-    omega (arith, c .leaving .ensures, c .before .before .wide .ensures .1, only-le (getD (c .before .before .before .before .before .before .before .before .before .before .before .before .before .before .before .before .before .mark-under .result) (place (c .before .before .before .before .before .before .before .before .before .before .before .before .before .before .before .before .before .before .before .before .before .args .plan .now) (c .before .before .before .before .before .before .before .before .index .result)) false && not (getD (c .before .before .before .before .before .before .before .before .before .before .before .before .before .before .before .before .before .mark-under .result) (place (c .before .before .before .before .before .before .before .before .before .before .before .before .before .before .before .before .before .before .before .before .before .args .plan .now) (c .before .before .before .before .before .index2 .result)) false)) (c .before .before .wide .result))
-
-add-up : tie.Need-add-up Inv-loop μ-loop
-add-up c = omega (arith, up-small c, c .before .before .before .before .before .before .before .before .before .before .before .before .before .loop .inv .3, stream-there (c .before .before .before .before .before .before .before .before .before .before .before))
-
-slice-aggregate-leaving-2 : tie.Need-slice-aggregate-leaving-2 Inv-loop μ-loop
-slice-aggregate-leaving-2 c = sym (c .before .before .before .before .before .before .before .before .before .before .before .before .before .before .before .before .before .before .mark-under .ensures .size)
-
-leaving-requires-2 : tie.Need-leaving-requires-2 Inv-loop μ-loop
-leaving-requires-2 c κs = search needs
+up-small : (c : tie.After-with-stream Inv-loop μ-loop) → Small (at-loop-before-with-stream c .loop .j + 1) (c .with-stream .result)
+up-small c = subst (Small (at-loop-before-with-stream c .loop .j + 1)) (sym (c .with-stream .ensures)) (joined-small (at-loop-before-with-stream c .loop .j) (at-loop-before-with-stream c .loop .up) (c .before .leaves .result) (field3-before-with-stream c .field3 .result) (omega (arith, field3-before-with-stream c .field3 .ok)) (at-loop-before-with-stream c .loop .inv .3))
 
 -- and downwards
-down-now : (c : tie.After-leaving2 Inv-loop μ-loop) →
-    let a = c .before .before .before .before .before .before .before .before .before .before .before .before .before .before .before .before .before .before .before .before .before .before .before .args in
-    c .before .before .before .before .before .before .before .before .before .before .before .before .before .before .before .loop .down + c .leaving2 .result ≡ down-load (told (a .records)) (place (a .plan .now)) (a .c) (c .before .before .before .before .before .before .before .before .before .before .before .before .before .before .before .loop .j + 1)
+down-now : (c : tie.After-with-stream2 Inv-loop μ-loop) → c .with-stream2 .result ≡ down-flow (told (start-before-with-stream2 c .args .records)) (place (start-before-with-stream2 c .args .plan .now)) (start-before-with-stream2 c .args .c) (at-loop-before-with-stream2 c .loop .j + 1)
 down-now c =
-    let a = c .before .before .before .before .before .before .before .before .before .before .before .before .before .before .before .before .before .before .before .before .before .before .before .args in
-    let t = c .before .before .before .before in
-    down-next (told (a .records)) (place (a .plan .now)) (c .before .before .before .before .before .before .before .before .before .before .before .before .before .before .before .before .before .before .before .mark-under .ensures) (from-is t) (to-is t) (demand-is t) (c .before .before .before .before .before .before .before .before .before .before .before .before .before .before .before .loop .inv .2) (c .leaving2 .ensures)
+    let a = start-before-with-stream2 c .args in
+    let t = (field3-before-with-stream2 c) in
+    let I = told (a .records) in
+    let π = place (a .plan .now) in
+    one-more I π (falls I π (a .c)) (at-loop-before-with-stream2 c .loop .j) (field3-before-with-stream2 c .field3 .result) (c .before .leaves2 .result) (at-loop-before-with-stream2 c .loop .down) (c .with-stream2 .result) (c .before .leaves2 .ensures ∙ down-told I π (mark-under-before-with-stream2 c .mark-under .ensures) (from-is t) (to-is t)) (demand-is t) (at-loop-before-with-stream2 c .loop .inv .2) (c .with-stream2 .ensures)
 
-down-small : (c : tie.After-leaving2 Inv-loop μ-loop) → c .leaving2 .result < 65536
-down-small c =
-    omega (arith, c .leaving2 .ensures, c .before .before .before .before .wide .ensures .1, only-le (getD (c .before .before .before .before .before .before .before .before .before .before .before .before .before .before .before .before .before .before .before .mark-under .result) (place (c .before .before .before .before .before .before .before .before .before .before .before .before .before .before .before .before .before .before .before .before .before .before .before .args .plan .now) (c .before .before .before .before .before .before .before .index2 .result)) false && not (getD (c .before .before .before .before .before .before .before .before .before .before .before .before .before .before .before .before .before .before .before .mark-under .result) (place (c .before .before .before .before .before .before .before .before .before .before .before .before .before .before .before .before .before .before .before .before .before .before .before .args .plan .now) (c .before .before .before .before .before .before .before .before .before .before .index .result)) false)) (c .before .before .before .before .wide .result))
-
-add-down : tie.Need-add-down Inv-loop μ-loop
-add-down c = omega (arith, down-small c, c .before .before .before .before .before .before .before .before .before .before .before .before .before .before .before .loop .inv .4, stream-there (c .before .before .before .before .before .before .before .before .before .before .before .before .before))
+down-small : (c : tie.After-with-stream2 Inv-loop μ-loop) → Small (at-loop-before-with-stream2 c .loop .j + 1) (c .with-stream2 .result)
+down-small c = subst (Small (at-loop-before-with-stream2 c .loop .j + 1)) (sym (c .with-stream2 .ensures)) (joined-small (at-loop-before-with-stream2 c .loop .j) (at-loop-before-with-stream2 c .loop .down) (c .before .leaves2 .result) (field3-before-with-stream2 c .field3 .result) (omega (arith, field3-before-with-stream2 c .field3 .ok)) (at-loop-before-with-stream2 c .loop .inv .4))
 
 add-j : tie.Need-add-j Inv-loop μ-loop
-add-j c = omega (arith, stream-there (c .before .before .before .before .before .before .before .before .before .before .before .before .before))
+add-j c = omega (arith, stream-there ((then2-before-with-stream2 c)))
 
 loop-less : tie.Need-loop-less Inv-loop μ-loop
-loop-less c = omega (arith, c .before .before .before .before .before .before .before .before .before .before .before .before .before .if2 .taken)
+loop-less c = omega (arith, then2-before-with-stream2 c .if2 .taken)
 
 loop-again : tie.Need-loop-again Inv-loop μ-loop
-loop-again c =
-    let u = c .before .before in
-    let l = c .before .before .before .before .before .before .before .before .before .before .before .before .before .before .before .loop in
-    (omega (arith, c .before .before .before .before .before .before .before .before .before .before .before .before .before .if2 .taken), up-now u, down-now c, omega (arith, up-small u, l .inv .3), omega (arith, down-small c, l .inv .4))
+loop-again c = (omega (arith, then2-before-with-stream2 c .if2 .taken), up-now ((with-stream-before-with-stream2 c)), down-now c, up-small ((with-stream-before-with-stream2 c)), down-small c)
+
+load-requires : tie.Need-load-requires Inv-loop μ-loop
+load-requires c κs = search needs
+
+load-requires-2 : tie.Need-load-requires-2 Inv-loop μ-loop
+load-requires-2 c κs = search needs
 
 returns-2 : tie.Need-returns-2 Inv-loop μ-loop
 returns-2 c =
-    let a = c .before .before .before .before .before .before .before .before .before .before .args in
-    let l = c .before .before .loop in
+    let a = start-before-load4 c .args in
+    let l = at-loop-before-load4 c .loop in
     let I = told (a .records) in
-    let e : l .j ≡ I .q = omega (arith, l .inv .0, c .if2 .left, counts (a .records) .2) in
-    ap₂ (λ (m n : ℕ). record { up = m; down = n }) (l .inv .1 ∙ ap (up-load I (place (a .plan .now)) (a .c)) e) (l .inv .2 ∙ ap (down-load I (place (a .plan .now)) (a .c)) e)
-    ∙ all-loads I (place (a .plan .now)) (a .c) (linked (c .before .before .before .before .before .before .before))
+    let π = place (a .plan .now) in
+    let e : l .j ≡ I .q = omega (arith, l .inv .0, else2-before-load4 c .if2 .left, counts (a .records) .2) in
+    ap₂ (λ (m n : ℕ). record { up = m; down = n })
+    (c .before .load3 .ensures ∙ ap (λ (f : Flow). load-of f) (l .inv .1 ∙ ap (up-flow I π (a .c)) e))
+    (c .load4 .ensures ∙ ap (λ (f : Flow). load-of f) (l .inv .2 ∙ ap (down-flow I π (a .c)) e))
+    ∙ all-loads I π (a .c) (linked ((else1-before-load4 c)))
 
 pub link-loads-spec : {M : Type 1} → statement M
 link-loads-spec =
@@ -176,14 +287,15 @@ link-loads-spec =
     index-requires-2
     slice-aggregate-field-3
     field-requires-3
-    wide-requires
-    slice-aggregate-leaving
-    leaving-requires
-    add-up
-    slice-aggregate-leaving-2
-    leaving-requires-2
-    add-down
+    slice-aggregate-leaves
+    leaves-requires
+    with-stream-requires
+    slice-aggregate-leaves-2
+    leaves-requires-2
+    with-stream-requires-2
     add-j
     loop-less
     loop-again
+    load-requires
+    load-requires-2
     returns-2)
