@@ -99,8 +99,14 @@ pub fn link_loads(records: Records, plan: &[u16], c: usize) -> Loads
     let from = records.from;
     let to = records.to;
     let load = records.load;
-    let mut up = Flow { demand: 0, frames: 0 };
-    let mut down = Flow { demand: 0, frames: 0 };
+    let mut up = Flow {
+        demand: 0,
+        frames: 0,
+    };
+    let mut down = Flow {
+        demand: 0,
+        frames: 0,
+    };
     let mut j = 0;
     while j < records.streams {
         let a = index(field(&from, records.streams, j));

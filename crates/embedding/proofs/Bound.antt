@@ -34,7 +34,7 @@ module _ (I : Instance) (W : WellFormed I) where
   -- a stream has one frame at most
   pub frames-le : (j : ℕ) → frames I j ≤ 1
   unfolding frames
-  frames-le j = only-le (ltb 0 (I .load j)) 1
+  frames-le j = only-le _ 1
 
   -- what leaves a set, where f is at most m
   pub leaving-le : (m : ℕ) (f : ℕ → ℕ) → ((j : ℕ) → f j ≤ m) → (x : ℕ → Bool) → leaving I f x ≤ 100 * m

@@ -4,7 +4,7 @@ use native.Mathlib.Omega.{arith}
 use mathlib.Core.Path.{_≡_, refl, sym, ap, ap₂, _∙_}
 use mathlib.Core.Bool.{Bool, true, false, _&&_, not}
 use lib.Bits.{bitAnd, and-le-l, and-le-r}
-use lib.Dec.{eqb, leb}
+use lib.Dec.{eqb, ltb, leb}
 use Rattle.finite.specs.Below.{_⇒_, only, sum-below, all-below}
 use Rattle.finite.proofs.Sums.{sum-ext, sum-mul}
 use Rattle.finite.proofs.Tests.{all-ext}
@@ -13,8 +13,9 @@ use Rattle.subsets.specs.Costs.{provided}
 use Rattle.subsets.specs.Inner.Masks.{full}
 use Rattle.subsets.proofs.Sets.{full-lt, has-and-full, apart-and}
 use Rattle.sheet.specs.Instance.{Instance}
+use Rattle.embedding.specs.Definition1.{member}
 use Rattle.embedding.specs.Limits.{frames, weight}
-use Rattle.embedding.specs.Plan.{demand-of, fits, unbarred, admits, link-fits, fee, toll, cabinets-keep, cabinets-cost}
+use Rattle.embedding.specs.Plan.{routes, demand-of, fits, unbarred, admits, link-fits, fee, toll, carried, cabinets-keep, cabinets-cost}
 use Rattle.embedding.specs.Inner.Charge.{leaving, entering, cabinet-charge, link-charge}
 
 -- a number that a test lets through, and a factor
@@ -22,6 +23,12 @@ pub only-mul : (t : Bool) (m n : ℕ) → only t m * n ≡ only t (m * n)
 unfolding only
 only-mul true m n = refl
 only-mul false m n = omega arith
+
+-- a number that two tests let through, one after the other
+only-only : (s t : Bool) (n : ℕ) → only s (only t n) ≡ only (s && t) n
+unfolding only
+only-only true t n = refl
+only-only false t n = refl
 
 -- a sum of numbers that a test lets through, each with 2 more for all that g counts
 framed-sum : (n : ℕ) (t : ℕ → Bool) (f g : ℕ → ℕ)
@@ -115,6 +122,16 @@ module _ (I : Instance) where
   pub entering-weight : (x : ℕ → Bool) → entering I (weight I) x ≡ entering I (I .load) x + 2 * entering I (frames I) x
   unfolding entering weight
   entering-weight x = framed-sum (I .q) (λ j. x (I .to j) && not (x (I .from j))) (I .load) (frames I)
+
+  -- what a plan's streams take of an edge: the demand of those that run along it, and 2 for each of them whose demand is above 0
+  pub carried-framed : (π : ℕ → ℕ) (e : ℕ) → carried I π e
+      ≡ sum-below (I .q) (λ j. only (member e (routes I π j)) (I .load j))
+      + 2 * sum-below (I .q) (λ j. only (member e (routes I π j) && ltb 0 (I .load j)) 1)
+  unfolding carried weight frames
+  carried-framed π e =
+      framed-sum (I .q) (λ j. member e (routes I π j)) (I .load) (frames I)
+      ∙ ap (λ (n : ℕ). sum-below (I .q) (λ j. only (member e (routes I π j)) (I .load j)) + 2 * n)
+      (sum-ext (I .q) _ _ (λ j k. only-only (member e (routes I π j)) (ltb 0 (I .load j)) 1))
 
   -- what a link charges for the set under it, by the demand and the frames that leave and enter the set
   pub charge-by-flows : (c x : ℕ) → link-charge I c x

@@ -81,6 +81,12 @@ module _ (I : Instance) (W : WellFormed I) where
   unfolding leaving entering
   load-by-cut π h c z = (loads.carried-up I W π (range-test I π .0 h) c z, loads.carried-down I W π (range-test I π .0 h) c z)
 
+  -- The load of a link direction is the demand of the streams whose path has it, and 2 for each of them whose demand is above 0.
+  pub framed-edge : (π : ℕ → ℕ) (e : ℕ) → carried I π e
+      ≡ sum-below (I .q) (λ j. only (member e (routes I π j)) (I .load j))
+      + 2 * sum-below (I .q) (λ j. only (member e (routes I π j) && ltb 0 (I .load j)) 1)
+  framed-edge = reckoning.carried-framed I
+
   -- What a set of services takes of a link's capacity: the demand that leaves, or enters, the set, and 2 for each such stream of demand above 0.
   pub framed-load : (x : ℕ → Bool) →
       (leaving I (weight I) x ≡ leaving I (I .load) x + 2 * leaving I (frames I) x)

@@ -1,4 +1,4 @@
--- 01, "Splits weighed", with the barred pairs of 02 (a): the sets of services that can be placed on the part before a cabinet, and the count of splits.
+-- 01, "Splits weighed", with the barred pairs of 02 (a) and the framing of 02 (e): the sets of services that can be placed on the part before a cabinet, and the count of splits.
 use Prim.Native.Nat.{ℕ, _^_}
 use mathlib.Core.Bool.{Bool, true, false, _&&_}
 use lib.Dec.{eqb, ltb}

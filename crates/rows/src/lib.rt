@@ -31,6 +31,7 @@ pub const SUMS: usize = 5 * SETS;
 
 // The row of the demand of what runs out, and of what runs in. The frames stand in the row after it.
 pub const OUT: usize = 1;
+
 pub const INTO: usize = 3;
 
 // So many digits are the low part of a key.

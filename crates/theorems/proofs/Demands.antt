@@ -12,9 +12,11 @@
 use Prim.Native.Nat.{ℕ, _+_, _-_, _*_, _^_, _≤_, _<_}
 use mathlib.Core.Logic.{_↔_, _⊎_, inl, inr}
 use mathlib.Core.Path.{_≡_, refl, ap, _∙_}
-use mathlib.Core.Bool.{true}
+use mathlib.Core.Bool.{true, _&&_}
 use mathlib.Core.List.{List}
+use lib.Dec.{ltb}
 use lib.ListN.{length, take, getD}
+use Rattle.finite.specs.Below.{only, sum-below}
 use Rattle.sheet.specs.Limits.{max-services, max-cabinets, max-streams, max-pairs}
 use Rattle.sheet.specs.Reading as reader
 use Rattle.sheet.specs.Reading.{reading}
@@ -30,13 +32,13 @@ use Rattle.sheet.specs.declared.Reading.the-variants as readings
 use Rattle.sheet.proofs.Promises.{well-formed, said}
 use Rattle.sheet.proofs.Order.{given-first, reading-first, reading-order}
 use Rattle.subsets.specs.Order.{NotAfter}
-use Rattle.embedding.specs.Definition1.{Feasible, cost}
+use Rattle.embedding.specs.Definition1.{member, Feasible, cost}
 use Rattle.embedding.specs.Limits.{Limits}
 use Rattle.embedding.specs.Road.{road}
-use Rattle.embedding.specs.Plan.{place, cheapest}
+use Rattle.embedding.specs.Plan.{place, routes, carried, cheapest}
 use Rattle.embedding.specs.First.{first-plan, places}
 use Rattle.embedding.specs.Splits.{weighed}
-use Rattle.embedding.proofs.Theorems.{plan-iff-mapping, cheapest-mapping}
+use Rattle.embedding.proofs.Theorems.{plan-iff-mapping, framed-edge, cheapest-mapping}
 use Rattle.checker.specs.Check as check
 use Rattle.checker.specs.Check.{checked}
 use Rattle.checker.specs.Answers as checks
@@ -272,3 +274,15 @@ pub copy-plans-alike :
     × ((plan : List ℕ) → checked (tidied (instance bytes)) plan ≡ checked bytes plan)
 copy-plans-alike bytes h reads =
     (ap cheapest (copying.same bytes h reads .1), copying.same-planned bytes h reads, copying.same-checked bytes h reads)
+
+-- ---- Framing
+
+-- The load by which check, planner and the sets that can be placed test a link direction, for any plan or placing: the demand of the streams whose
+-- path has it, and 2 more for each of them whose demand is above 0. What is priced is the demand alone, by `cost` of Definition 1.
+pub framing-counted :
+    (bytes : List ℕ) (h : Sheet) → reading bytes ≡ readings.Accepted h →
+    (π : ℕ → ℕ) (e : ℕ) →
+    carried (instance bytes) π e
+    ≡ sum-below (instance bytes .q) (λ j. only (member e (routes (instance bytes) π j)) (instance bytes .load j))
+    + 2 * sum-below (instance bytes .q) (λ j. only (member e (routes (instance bytes) π j) && ltb 0 (instance bytes .load j)) 1)
+framing-counted bytes h reads = framed-edge (instance bytes) (well-formed bytes h reads)

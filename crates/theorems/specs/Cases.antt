@@ -1,5 +1,5 @@
 -- The worked cases that are proved, 01's "Measured roads" and those of 02: for each call on the bytes of a sheet, the answer expected.
-use Prim.Native.Nat.{ℕ, _+_, _*_, _^_}
+use Prim.Native.Nat.{ℕ, _+_, _*_, _/_, _^_}
 use mathlib.Core.Bool.{Bool, true, _&&_}
 use mathlib.Core.Path.{_≡_}
 use mathlib.Core.List.{List, [], _∷_, _++_}
@@ -94,6 +94,17 @@ m-barred = m-with 68 (1 ∷ 0 ∷ 0 ∷ [])
 abbrev pub m-nowhere : List ℕ
 m-nowhere = m-with 68 (3 ∷ 0 ∷ 0 ∷ 0 ∷ 1 ∷ 0 ∷ 2 ∷ [])
 
+-- road M with an up capacity for cabinet 1, and with other streams, three words each
+abbrev pub m-carrying : ℕ → List ℕ → List ℕ
+m-carrying up streams =
+    from-words (
+    2 ∷ 3 ∷ length streams / 3 ∷ 16 ∷ 20 ∷ 62 ∷ (62 + 2 * length streams) ∷ 0
+    ∷ 2 ∷ 2
+    ∷ 65535 ∷ 4 ∷ 5 ∷ 0 ∷ 0 ∷ 0 ∷ 0
+    ∷ 0 ∷ 3 ∷ 1 ∷ up ∷ 2 ∷ 6 ∷ 1
+    ∷ 0 ∷ 3 ∷ 2 ∷ 2 ∷ 1 ∷ 6 ∷ 1 ∷ streams
+    )
+
 -- road Z: M0 with a third service of demand 0, and streams of 3 from it to each of the others
 abbrev pub road-z : List ℕ
 road-z =
@@ -143,8 +154,8 @@ cases =
     ∷ plan (road 3 6) (plans.Plan 15 17)
     ∷ plan (road 0 6) (plans.Plan 15 12)
     ∷ writes (road 0 6) (1 ∷ 2 ∷ [])
-    ∷ plan (road 0 3) (plans.Plan 15 12)
-    ∷ plan (road 0 2) (plans.Refused (refusal 12) 10)
+    ∷ plan (road 0 5) (plans.Plan 15 12)
+    ∷ plan (road 0 4) (plans.Refused (refusal 12) 10)
     ∷ plan-costs road-z 12
     ∷ puts road-z 12 2 0
     ∷ writes road-z (1 ∷ 2 ∷ 0 ∷ [])
@@ -156,6 +167,12 @@ cases =
     ∷ puts m-barred 15 1 2
     ∷ writes m-barred (1 ∷ 2 ∷ [])
     ∷ plan m-nowhere (plans.Refused (refusal 12) 12)
+    -- framing on the way up: two streams of one pair; one of them the other way; a stream of demand 0
+    ∷ check (m-carrying 7 (0 ∷ 1 ∷ 1 ∷ 0 ∷ 1 ∷ 2 ∷ [])) (1 ∷ 0 ∷ []) (Accepted 18)
+    ∷ check (m-carrying 6 (0 ∷ 1 ∷ 1 ∷ 0 ∷ 1 ∷ 2 ∷ [])) (1 ∷ 0 ∷ []) (Refused (refusal 16))
+    ∷ check (m-carrying 3 (0 ∷ 1 ∷ 1 ∷ 1 ∷ 0 ∷ 2 ∷ [])) (1 ∷ 0 ∷ []) (Accepted 16)
+    ∷ check (m-carrying 2 (0 ∷ 1 ∷ 1 ∷ 1 ∷ 0 ∷ 2 ∷ [])) (1 ∷ 0 ∷ []) (Refused (refusal 16))
+    ∷ check (m-carrying 0 (0 ∷ 1 ∷ 0 ∷ [])) (1 ∷ 0 ∷ []) (Accepted 12)
     -- a block of no pairs; one pair, also twice, and after a gap
     ∷ read (m-with 68 (0 ∷ [])) 0
     ∷ read (m-with 68 (1 ∷ 1 ∷ 2 ∷ [])) 0

@@ -108,8 +108,7 @@ loop-again c =
     let t = has (a .x) (getD (a .from .now) (l .j) 0) && not (has (a .x) (getD (a .to .now) (l .j) 0)) in
     let r : runs-out-before-only-if2 c .runs-out .result ≡ t = runs-out-before-only-if2 c .runs-out .ensures ∙ ap₂ (λ (u v : ℕ). has (a .x) u && not (has (a .x) v)) (index-before-only-if2 c .index .ensures .0) (index2-before-only-if2 c .index2 .ensures .0) in
     let d : only-if-before-only-if2 c .only-if .result ≡ only t (getD (a .load .now) (l .j) 0) = only-if-before-only-if2 c .only-if .ensures .0 ∙ ap (λ (s : Bool). only s (getD (a .load .now) (l .j) 0)) r in
-    let f : c .only-if2 .result ≡ only t (frames-in (getD (a .load .now) (l .j) 0)) = c .only-if2 .ensures .0 ∙ ap₂ only r (c .before .frames-of .ensures) in
-    (
+    let f : c .only-if2 .result ≡ only t (frames-in (getD (a .load .now) (l .j) 0)) = c .only-if2 .ensures .0 ∙ ap₂ only r (c .before .frames-of .ensures) in (
       omega arith,
       omega (arith, only-if-before-only-if2 c .only-if .ensures .1, l .inv .1),
       omega (arith, c .only-if2 .ensures .1, l .inv .2),

@@ -128,8 +128,7 @@ loop-again : tie.Need-loop-again Inv-loop μ-loop
 loop-again c =
     let a = start-before-of4 c .args in
     let l = at-loop-before-of4 c .loop in
-    let e = c .before .put-flow2 .ensures ∙ ap (λ (s : List ℕ). put s into-row (l .x) (flow-of2-before-of4 c .flow-of2 .result)) (put-flow-before-of4 c .put-flow .ensures) in
-    (
+    let e = c .before .put-flow2 .ensures ∙ ap (λ (s : List ℕ). put s into-row (l .x) (flow-of2-before-of4 c .flow-of2 .result)) (put-flow-before-of4 c .put-flow .ensures) in (
       omega (arith, in-loop-before-of4 c .loop-test .taken),
       subst (SumsOf (a .t1) (l .x + 1)) (sym e) (summed-next (a .t1) (l .x) (l .of) (demand-of-before-of4 c .demand-of .result) (flow-of-before-of4 c .flow-of .result) (flow-of2-before-of4 c .flow-of2 .result) (omega (arith, start-before-of4 c .pre, in-loop-before-of4 c .loop-test .taken)) (l .inv .1) (demand-of-before-of4 c .demand-of .ensures) (flow-of-before-of4 c .flow-of .ensures) (flow-of2-before-of4 c .flow-of2 .ensures)),
     )

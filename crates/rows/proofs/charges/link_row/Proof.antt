@@ -59,12 +59,11 @@ loop-less c = search needs
 loop-again : tie.Need-loop-again Inv-loop μ-loop
 loop-again c =
     let a = start-before-link-charge c .args in
-    let l = at-loop-before-link-charge c .loop in
-    (
+    let l = at-loop-before-link-charge c .loop in (
       omega arith,
       simp length-set (l .inv .1),
       next-written (l .link) (l .x) (c .link-charge .result) (λ d. link-figure (a .k) (run-out (a .sums .now) d) (run-in (a .sums .now) d)) (omega arith)
-      (c .link-charge .ensures ∙ ap₂ (λ (u v : Flow). link-figure (a .k) u v) (flow-at-before-link-charge c .flow-at .ensures) (c .before .flow-at2 .ensures)) (l .inv .2),
+          (c .link-charge .ensures ∙ ap₂ (λ (u v : Flow). link-figure (a .k) u v) (flow-at-before-link-charge c .flow-at .ensures) (c .before .flow-at2 .ensures)) (l .inv .2),
     )
 
 same-length : tie.Need-same-length Inv-loop μ-loop
