@@ -43,14 +43,12 @@ pub(crate) fn walk_links(records: Records, plan: &[u16], at_cabinets: u64) -> Ch
         }
         let link = records.cabinet(c);
         let marks = mark_under(records, c);
-        let mut up = Flow {
+        let none = Flow {
             demand: 0,
             frames: 0,
         };
-        let mut down = Flow {
-            demand: 0,
-            frames: 0,
-        };
+        let mut up = none;
+        let mut down = none;
         let mut j = 0;
         while j < streams {
             let a = index(field(&from, streams, j));

@@ -99,14 +99,12 @@ pub fn link_loads(records: Records, plan: &[u16], c: usize) -> Loads
     let from = records.from;
     let to = records.to;
     let load = records.load;
-    let mut up = Flow {
+    let none = Flow {
         demand: 0,
         frames: 0,
     };
-    let mut down = Flow {
-        demand: 0,
-        frames: 0,
-    };
+    let mut up = none;
+    let mut down = none;
     let mut j = 0;
     while j < records.streams {
         let a = index(field(&from, records.streams, j));

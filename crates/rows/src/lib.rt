@@ -29,9 +29,10 @@ pub const SETS: usize = 1 << Sheet::MAX_SERVICES;
 // Rows of sums over sets, each of SETS places: the demand; what runs out, by demand and frames; and what runs in, in the same way.
 pub const SUMS: usize = 5 * SETS;
 
-// The row of the demand of what runs out, and of what runs in. The frames stand in the row after it.
+// The row of the demand of what runs out; its frames stand in the row after it.
 pub const OUT: usize = 1;
 
+// The row of the demand of what runs in; its frames stand in the row after it.
 pub const INTO: usize = 3;
 
 // So many digits are the low part of a key.
