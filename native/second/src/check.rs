@@ -1,33 +1,52 @@
 //! The check: the cost of a plan, or the first refusal.
 
 use crate::bars::Bars;
+use crate::framing::taken;
 use crate::path::{Step, path};
 use crate::read::read;
 use crate::sheet::Sheet;
 
-/// The demand on each cabinet and on each direction of each link; a link goes by the cabinet below.
+/// What the streams that run along one direction of a link put on it.
+#[derive(Clone, Copy, Debug, Default, PartialEq, Eq)]
+pub struct Line {
+    /// Their demands, which are priced.
+    pub demand: u64,
+    /// Their demands with their framing, which the capacity must suffice for.
+    pub load: u64,
+}
+
+impl Line {
+    /// Puts a stream of this demand on the line.
+    fn add(&mut self, demand: u16) {
+        self.demand += u64::from(demand);
+        self.load += taken(demand);
+    }
+}
+
+/// The demand on each cabinet, and what is on each direction of each link; a link goes by the
+/// cabinet below.
 #[derive(Clone, Debug, PartialEq, Eq)]
 pub struct Loads {
     pub cabinets: Vec<u64>,
-    pub up: Vec<u64>,
-    pub down: Vec<u64>,
+    pub up: Vec<Line>,
+    pub down: Vec<Line>,
 }
 
 impl Loads {
     pub fn new(cabinets: usize) -> Loads {
         Loads {
             cabinets: vec![0; cabinets],
-            up: vec![0; cabinets],
-            down: vec![0; cabinets],
+            up: vec![Line::default(); cabinets],
+            down: vec![Line::default(); cabinets],
         }
     }
 
-    /// Puts a stream's demand on every link of its path.
+    /// Puts a stream of this demand on every link of its path.
     pub fn run(&mut self, steps: &[Step], demand: u16) {
         for step in steps {
             match *step {
-                Step::Up(c) => self.up[c] += u64::from(demand),
-                Step::Down(c) => self.down[c] += u64::from(demand),
+                Step::Up(c) => self.up[c].add(demand),
+                Step::Down(c) => self.down[c].add(demand),
             }
         }
     }
@@ -37,11 +56,18 @@ impl Loads {
         self.cabinets[c] <= u64::from(sheet.cabinets[c].capacity)
     }
 
-    /// Both directions of the cabinet's link carry no more than their capacities.
+    /// Neither direction of the cabinet's link has a load above its capacity.
     pub fn carries(&self, sheet: &Sheet, c: usize) -> bool {
         let cabinet = &sheet.cabinets[c];
-        self.up[c] <= u64::from(cabinet.up_capacity)
-            && self.down[c] <= u64::from(cabinet.down_capacity)
+        self.up[c].load <= u64::from(cabinet.up_capacity)
+            && self.down[c].load <= u64::from(cabinet.down_capacity)
+    }
+
+    /// The same if framing took no line.
+    fn carries_unframed(&self, sheet: &Sheet, c: usize) -> bool {
+        let cabinet = &sheet.cabinets[c];
+        self.up[c].demand <= u64::from(cabinet.up_capacity)
+            && self.down[c].demand <= u64::from(cabinet.down_capacity)
     }
 }
 
@@ -61,6 +87,14 @@ pub fn check_sheet(sheet: &Sheet, plan: &[u16]) -> Result<u64, u64> {
     }
     let bars = Bars::new(sheet);
     judge(sheet, &bars, plan, |from, to| path(sheet, from, to))
+}
+
+/// The plan gets 16, and would be valid if framing took no line.
+pub fn only_framing(sheet: &Sheet, plan: &[u16]) -> bool {
+    check_sheet(sheet, plan) == Err(16) && {
+        let loads = loads(sheet, plan, |from, to| path(sheet, from, to));
+        (1..sheet.cabinets.len()).all(|c| loads.carries_unframed(sheet, c))
+    }
 }
 
 /// Validity and cost of a plan that has a cabinet of the road for each service.
@@ -102,13 +136,14 @@ pub fn loads<P: AsRef<[Step]>>(
     loads
 }
 
-/// Every demand times the price of the cabinet that holds it or the link direction that carries it.
+/// Every demand times the price of the cabinet that holds it or the link direction that carries it;
+/// framing is not priced.
 fn cost(sheet: &Sheet, loads: &Loads) -> u64 {
     let charge = |c: usize| {
         let cabinet = &sheet.cabinets[c];
         loads.cabinets[c] * u64::from(cabinet.price)
-            + loads.up[c] * u64::from(cabinet.up_price)
-            + loads.down[c] * u64::from(cabinet.down_price)
+            + loads.up[c].demand * u64::from(cabinet.up_price)
+            + loads.down[c].demand * u64::from(cabinet.down_price)
     };
     (0..sheet.cabinets.len()).map(charge).sum()
 }

@@ -2,8 +2,10 @@
 
 use second::bars::Bars;
 use second::build::tight;
+use second::check::{check_sheet, only_framing};
 use second::form::{Form, forms};
 use second::plan::solve;
+use second::random::amounts::just_enough;
 use second::random::damage::{Damage, damage};
 use second::random::road::{Kind, of_kind, road};
 use second::random::{Random, Size, case, layout::layout, tied};
@@ -201,4 +203,60 @@ fn blocks_behind_long_gaps() {
         }
     }
     assert!(far.iter().all(|&times| times >= 20), "{far:?}");
+}
+
+/// The same road with one less of each capacity in turn that is not 0.
+fn each_less(sheet: &Sheet) -> Vec<Sheet> {
+    let mut all = vec![];
+    for c in 0..sheet.cabinets.len() {
+        let mut less = [(); 3].map(|()| sheet.clone());
+        let [room, up, down] = &mut less;
+        let fields = [
+            &mut room.cabinets[c].capacity,
+            &mut up.cabinets[c].up_capacity,
+            &mut down.cabinets[c].down_capacity,
+        ];
+        let lessened = fields.map(|field| {
+            let full = *field > 0;
+            *field -= u16::from(full);
+            full
+        });
+        let changed = less.into_iter().zip(lessened);
+        all.extend(changed.filter(|(_, full)| *full).map(|(sheet, _)| sheet));
+    }
+    all
+}
+
+#[test]
+fn capacities_cut_to_a_plan_just_suffice_for_it() {
+    let mut framed = 0;
+    for seed in 0..400 {
+        let mut sheet = of_kind(&mut Random::new(seed), Kind::Small, SIZE);
+        sheet.barred.clear();
+        just_enough(&mut Random::new(seed), &mut sheet);
+        let (mut random, s) = (Random::new(seed), sheet.cabinets.len());
+        let plan: Vec<u16> = sheet
+            .services
+            .iter()
+            .map(|_| random.below(s) as u16)
+            .collect();
+        assert!(check_sheet(&sheet, &plan).is_ok(), "{sheet:?}");
+        for less in each_less(&sheet) {
+            let refusal = check_sheet(&less, &plan);
+            assert!(matches!(refusal, Err(15 | 16)), "{refusal:?}: {less:?}");
+            framed += usize::from(only_framing(&less, &plan));
+        }
+    }
+    assert!(framed > 100, "{framed} plans refused for framing alone");
+}
+
+#[test]
+fn costs_of_long_chains_pass_32_bits() {
+    let mut random = Random::new(17);
+    for _ in 0..40 {
+        let mut sheet = of_kind(&mut random, Kind::Long, SIZE);
+        sheet.barred.clear();
+        let answer = solve(&sheet);
+        assert!(answer.cost > u64::from(u32::MAX), "{answer:?}");
+    }
 }

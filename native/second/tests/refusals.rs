@@ -163,7 +163,9 @@ fn streams_add_up() {
     }
     assert_eq!(check(&tight(&sheet), &[0, 1]), Err(16));
     sheet.streams.truncate(1);
-    assert_eq!(check(&tight(&sheet), &[0, 1]), Ok(20_012));
+    assert_eq!(check(&tight(&sheet), &[0, 1]), Err(16));
+    sheet.streams[0].demand = 9_998;
+    assert_eq!(check(&tight(&sheet), &[0, 1]), Ok(20_008));
 }
 
 #[test]

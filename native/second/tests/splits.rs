@@ -62,7 +62,7 @@ fn streams_to_services_elsewhere_load_the_part() {
         services: vec![1, 1],
         cabinets: vec![
             Cabinet::from_words([NO_PARENT, 0, 0, 0, 0, 0, 0]),
-            Cabinet::from_words([0, 2, 0, 4, 0, 5, 0]),
+            Cabinet::from_words([0, 2, 0, 6, 0, 7, 0]),
             Cabinet::from_words([0, 0, 0, 0, 0, 0, 0]),
         ],
         streams: vec![Stream::from_words([0, 1, 5])],
@@ -71,6 +71,6 @@ fn streams_to_services_elsewhere_load_the_part() {
     // Before 1: the empty set, 4. Before 2: the empty set, 4; service 1 alone, whose stream comes
     // down, 2; both together, 1; but not service 0 alone, whose stream goes up.
     assert_eq!(count(&sheet, &Paths::new(&sheet)), 11);
-    sheet.cabinets[1].up_capacity = 5;
+    sheet.cabinets[1].up_capacity = 7;
     assert_eq!(count(&sheet, &Paths::new(&sheet)), 13);
 }

@@ -2,6 +2,7 @@
 
 use super::Random;
 use crate::check::{Loads, loads};
+use crate::framing::taken;
 use crate::limits::AMOUNT;
 use crate::path::path;
 use crate::sheet::{Cabinet, Sheet};
@@ -34,12 +35,27 @@ impl Scale {
         amount as u16
     }
 
-    /// A capacity: often enough for several demands of this scale, sometimes 0.
+    /// A cabinet's capacity: often enough for several demands of this scale, sometimes 0.
     fn capacity(self, random: &mut Random) -> u16 {
-        let several = random.between(0, 4) as u32;
-        let sum: u32 = (0..several).map(|_| u32::from(self.amount(random))).sum();
-        sum.min(u32::from(AMOUNT)) as u16
+        self.several(random, u64::from)
     }
+
+    /// The same of a link, for streams with their framing.
+    fn link_capacity(self, random: &mut Random) -> u16 {
+        self.several(random, taken)
+    }
+
+    /// What several demands of this scale take, if each takes so much; no more than an amount.
+    fn several(self, random: &mut Random, takes: impl Fn(u16) -> u64) -> u16 {
+        let several = random.between(0, 4);
+        let sum: u64 = (0..several).map(|_| takes(self.amount(random))).sum();
+        cut(sum)
+    }
+}
+
+/// The largest amount that is no more than this.
+fn cut(load: u64) -> u16 {
+    load.min(u64::from(AMOUNT)) as u16
 }
 
 /// Gives every cabinet and link random prices.
@@ -58,8 +74,8 @@ pub fn capacities(random: &mut Random, scale: Scale, cabinets: &mut [Cabinet]) {
     for (c, cabinet) in cabinets.iter_mut().enumerate() {
         cabinet.capacity = scale.capacity(random);
         if c != 0 {
-            cabinet.up_capacity = scale.capacity(random);
-            cabinet.down_capacity = scale.capacity(random);
+            cabinet.up_capacity = scale.link_capacity(random);
+            cabinet.down_capacity = scale.link_capacity(random);
         }
     }
 }
@@ -75,18 +91,18 @@ pub fn ample(cabinets: &mut [Cabinet]) {
     }
 }
 
-/// Cuts every capacity to what a random plan needs, so that it just suffices for that plan.
+/// Cuts every capacity to what a random plan needs, framing counted, so that it just suffices for
+/// that plan.
 pub fn just_enough(random: &mut Random, sheet: &mut Sheet) {
     let s = sheet.cabinets.len();
     let plan: Vec<u16> = (0..sheet.services.len())
         .map(|_| random.below(s) as u16)
         .collect();
     let Loads { cabinets, up, down } = loads(sheet, &plan, |a, b| path(sheet, a, b));
-    let cut = |load: u64| load.min(u64::from(AMOUNT)) as u16;
     for (c, cabinet) in sheet.cabinets.iter_mut().enumerate() {
         cabinet.capacity = cut(cabinets[c]);
-        cabinet.up_capacity = cut(up[c]);
-        cabinet.down_capacity = cut(down[c]);
+        cabinet.up_capacity = cut(up[c].load);
+        cabinet.down_capacity = cut(down[c].load);
     }
 }
 

@@ -240,13 +240,14 @@ fn crowd(random: &mut Random) -> Sheet {
     sheet
 }
 
-/// A chain of more than 43 links whose ends alone hold a service each, everything at its largest.
+/// A chain of more than 43 links whose ends alone hold a service each, everything at its largest,
+/// or the largest that links carry.
 fn long(random: &mut Random) -> Sheet {
     let s = random.between(45, 48);
     let mut sheet = Sheet {
         services: vec![10_000, 10_000],
         cabinets: vec![Cabinet::default(); s],
-        streams: vec![Stream::from_words([0, 1, 10_000])],
+        streams: vec![Stream::from_words([0, 1, 9_998])],
         barred: vec![],
     };
     ample(&mut sheet.cabinets);

@@ -4,6 +4,7 @@ use super::Random;
 use super::amounts::{Scale, ample};
 use super::case::Size;
 use super::road::{Kind, of_numbers};
+use crate::framing::taken;
 use crate::limits::{AMOUNT, NO_PARENT, SERVICES};
 use crate::sheet::{Cabinet, Sheet};
 
@@ -86,7 +87,7 @@ fn set_prices(cabinets: &mut [Cabinet], mut next: impl FnMut() -> [u16; 3]) {
 pub fn room(random: &mut Random, sheet: &mut Sheet) {
     let most = |sum: usize| sum.min(usize::from(AMOUNT));
     let demand = most(sheet.services.iter().map(|&d| usize::from(d)).sum());
-    let load = most(sheet.streams.iter().map(|t| usize::from(t.demand)).sum());
+    let load = most(sheet.streams.iter().map(|t| taken(t.demand) as usize).sum());
     let narrow = random.once_in(3);
     ample(&mut sheet.cabinets);
     for (c, cabinet) in sheet.cabinets.iter_mut().enumerate() {
