@@ -180,8 +180,8 @@ fn harm_bytes(random: &mut Random, bytes: &mut Vec<u8>, number: u64) {
             put(bytes, at, [value]);
         }
         3 => match random.below(4) {
-            0 => put(bytes, 12, [length as u16 + 1]),
-            1 => put(bytes, 12, [length as u16 - 1]),
+            0 => put(bytes, 12, [(length as u16).wrapping_add(1)]),
+            1 => put(bytes, 12, [(length as u16).wrapping_sub(1)]),
             2 => bytes.push(0),
             _ => bytes.truncate((length - 1).max(HEADER)),
         },
