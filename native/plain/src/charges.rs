@@ -3,25 +3,28 @@
 use crate::NONE;
 use second::{Cabinet, Sheet};
 
-/// For each set: the demand of its services, and of the streams that leave and enter it. For each
-/// cabinet: the set of services that are barred from it.
+/// The streams that cross the link of a set in one direction.
+#[derive(Clone, Copy, Default)]
+struct Crossing {
+    /// Their demands.
+    demand: u64,
+    /// How many of them have a demand above 0.
+    framed: u8,
+}
+
+/// For each set: the demand of its services, and the streams that leave and enter it. For each
+/// cabinet: the set of services that are barred from it. What the framing of a stream takes.
 pub struct Charges {
     barred: Vec<usize>,
     demand: Vec<u64>,
-    out: Vec<u64>,
-    into: Vec<u64>,
+    out: Vec<Crossing>,
+    into: Vec<Crossing>,
+    framing: u64,
 }
 
 impl Charges {
-    pub fn new(sheet: &Sheet) -> Charges {
+    pub fn new(sheet: &Sheet, framing: u64) -> Charges {
         let sets = 0..1_usize << sheet.services.len();
-        let holds = |set: usize, service: u16| set >> service & 1 == 1;
-        let crossing = |set: usize, leaving: bool| {
-            let streams = sheet.streams.iter();
-            let crosses =
-                streams.filter(|t| holds(set, t.from) == leaving && holds(set, t.to) != leaving);
-            crosses.map(|t| u64::from(t.demand)).sum()
-        };
         let demand = |set: usize| {
             let services = sheet.services.iter().enumerate();
             let inside = services.filter(|(i, _)| set >> i & 1 == 1);
@@ -30,8 +33,9 @@ impl Charges {
         Charges {
             barred: barred(sheet),
             demand: sets.clone().map(demand).collect(),
-            out: sets.clone().map(|set| crossing(set, true)).collect(),
-            into: sets.map(|set| crossing(set, false)).collect(),
+            out: sets.clone().map(|set| crossing(sheet, set, true)).collect(),
+            into: sets.map(|set| crossing(sheet, set, false)).collect(),
+            framing,
         }
     }
 
@@ -49,17 +53,32 @@ impl Charges {
 
     /// The row of a cabinet's link, for each set below it.
     pub fn link(&self, cabinet: &Cabinet, row: &mut [u64]) {
-        let loads = self.out.iter().zip(&self.into);
-        for (figure, (&up, &down)) in row.iter_mut().zip(loads) {
-            let fits =
-                up <= u64::from(cabinet.up_capacity) && down <= u64::from(cabinet.down_capacity);
-            *figure = if fits {
-                up * u64::from(cabinet.up_price) + down * u64::from(cabinet.down_price)
+        let fits = |line: &Crossing, capacity: u16| {
+            line.demand + self.framing * u64::from(line.framed) <= u64::from(capacity)
+        };
+        let lines = self.out.iter().zip(&self.into);
+        for (figure, (up, down)) in row.iter_mut().zip(lines) {
+            *figure = if fits(up, cabinet.up_capacity) && fits(down, cabinet.down_capacity) {
+                up.demand * u64::from(cabinet.up_price)
+                    + down.demand * u64::from(cabinet.down_price)
             } else {
                 NONE
             };
         }
     }
+}
+
+/// The streams that leave a set, or those that enter it.
+fn crossing(sheet: &Sheet, set: usize, leaving: bool) -> Crossing {
+    let holds = |service: u16| set >> service & 1 == 1;
+    let mut crossing = Crossing::default();
+    for stream in &sheet.streams {
+        if holds(stream.from) == leaving && holds(stream.to) != leaving {
+            crossing.demand += u64::from(stream.demand);
+            crossing.framed += u8::from(stream.demand > 0);
+        }
+    }
+    crossing
 }
 
 /// The services barred from each cabinet, as a set.

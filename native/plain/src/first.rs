@@ -1,15 +1,12 @@
 //! The first of the cheapest plans, found by asking for the least cost alone.
 
-use crate::{NONE, fill};
+use crate::figures;
+use second::framing::FRAMING;
 use second::{Pair, Sheet};
 
 /// The cost of a cheapest plan, if there is a valid one.
-pub fn least_cost(sheet: &Sheet) -> Option<u64> {
-    let row = 1 << sheet.services.len();
-    let entries = sheet.cabinets.len() * row;
-    let mut costs = vec![0; entries];
-    fill(sheet, &mut costs, &mut vec![0; entries]);
-    Some(costs[row - 1]).filter(|&cost| cost < NONE)
+fn least_cost(sheet: &Sheet) -> Option<u64> {
+    figures(sheet, FRAMING).0
 }
 
 /// The first of the cheapest plans, if there is a valid one. Each service in turn goes to the

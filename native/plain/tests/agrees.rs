@@ -1,6 +1,9 @@
 //! The planner by rows answers as the second planner does.
 
+use plain::figures;
 use second::barred;
+use second::framing::FRAMING;
+use second::measured::m_records;
 use second::random::{Case, Random, Size, case};
 use second::{check, plan, read};
 
@@ -29,18 +32,42 @@ fn random_cases() {
         cabinets: 7,
     };
     let mut random = Random::new(3);
-    let mut with_bars = 0;
+    let (mut with_bars, mut framed) = (0, 0);
     for _ in 0..3000 {
         let case = case(&mut random, size);
         agrees(&case);
-        with_bars += usize::from(read(&case.sheet).is_ok_and(|s| !s.barred.is_empty()));
+        let Ok(sheet) = read(&case.sheet) else {
+            continue;
+        };
+        with_bars += usize::from(!sheet.barred.is_empty());
+        framed += usize::from(figures(&sheet, 0) != figures(&sheet, FRAMING));
     }
     assert!(with_bars > 500, "{with_bars} roads with barred pairs");
+    assert!(framed > 80, "{framed} roads that framing matters for");
 }
 
 #[test]
 fn written_down() {
     for directed in barred::all() {
         agrees(&directed.case());
+    }
+}
+
+#[test]
+fn m0_with_more_and_less_framing() {
+    let mut sheet = m_records();
+    sheet.cabinets[0].capacity = 0;
+    for (up, framing, right) in [
+        (3, 0, (Some(15), 12)),
+        (2, 0, (None, 10)),
+        (4, 1, (Some(15), 12)),
+        (3, 1, (None, 10)),
+        (5, 2, (Some(15), 12)),
+        (4, 2, (None, 10)),
+        (6, 3, (Some(15), 12)),
+        (5, 3, (None, 10)),
+    ] {
+        sheet.cabinets[1].up_capacity = up;
+        assert_eq!(figures(&sheet, framing), right, "{up}, {framing}");
     }
 }

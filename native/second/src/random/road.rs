@@ -23,6 +23,8 @@ pub enum Kind {
     Lacking,
     /// Many streams of the same few pairs.
     Pairs,
+    /// Links that just carry the streams of some plan, or would if framing took no line.
+    Framed,
     /// Many streams of large demand, so that sums pass 65,535.
     Streams,
     /// Many services of large demand on one or two cabinets, for the same.
@@ -50,7 +52,7 @@ pub enum Kind {
 }
 
 /// The kinds that are common, each as often as it stands here.
-const KINDS: [Kind; 24] = [
+const KINDS: [Kind; 28] = [
     Kind::Small,
     Kind::Small,
     Kind::Small,
@@ -70,6 +72,10 @@ const KINDS: [Kind; 24] = [
     Kind::Pairs,
     Kind::Pairs,
     Kind::Pairs,
+    Kind::Framed,
+    Kind::Framed,
+    Kind::Framed,
+    Kind::Framed,
     Kind::Streams,
     Kind::Streams,
     Kind::Crowd,
@@ -102,6 +108,7 @@ fn unbarred(random: &mut Random, kind: Kind, size: Size) -> Sheet {
         Kind::Extreme => plain(random, size, Scale::Big),
         Kind::Enough | Kind::Lacking => measured_out(random, kind, size),
         Kind::Pairs => pairs(random, size),
+        Kind::Framed => framed(random, size),
         Kind::Streams => streams(random, size),
         Kind::Crowd => crowd(random),
         Kind::Long => long(random),
@@ -193,6 +200,26 @@ fn pairs(random: &mut Random, size: Size) -> Sheet {
             };
         }
         just_enough(random, &mut sheet);
+    }
+    sheet
+}
+
+/// Two services or more of demand 1, and capacities cut to some plan; but cabinets may hold one
+/// more, and a link may lack up to the framing of a stream.
+fn framed(random: &mut Random, size: Size) -> Sheet {
+    let (r, s) = size.draw(random);
+    let (r, s) = (r.max(size.services.min(2)), s.max(size.cabinets.min(2)));
+    let mut sheet = of_numbers(random, r, s, Scale::Small);
+    sheet.services.fill(1);
+    let q = random.between(1, 8);
+    sheet.streams = some_streams(random, r, q, Scale::Small);
+    just_enough(random, &mut sheet);
+    for cabinet in &mut sheet.cabinets {
+        cabinet.capacity += random.below(2) as u16;
+        for capacity in [&mut cabinet.up_capacity, &mut cabinet.down_capacity] {
+            let lacking = random.pick(&[0, 0, 0, 1, 2]);
+            *capacity = capacity.saturating_sub(lacking);
+        }
     }
     sheet
 }
