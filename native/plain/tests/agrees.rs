@@ -1,11 +1,10 @@
 //! The planner by rows answers as the second planner does.
 
 use plain::figures;
-use second::barred;
 use second::framing::FRAMING;
 use second::measured::m_records;
 use second::random::{Case, Random, Size, case};
-use second::{check, plan, read};
+use second::{barred, check, framed, plan, read};
 
 /// The answers agree for every length lent, but for which of the cheapest plans is written.
 fn agrees(case: &Case) {
@@ -50,6 +49,9 @@ fn random_cases() {
 fn written_down() {
     for directed in barred::all() {
         agrees(&directed.case());
+    }
+    for road in framed::all() {
+        agrees(&road.case());
     }
 }
 

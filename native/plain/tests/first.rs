@@ -4,12 +4,16 @@ use plain::first_plan;
 use second::plan::solve;
 use second::random::road::{Kind, of_kind, road};
 use second::random::{Random, Size};
-use second::{check, tied};
+use second::{check, framed, tied};
 
 #[test]
 fn written_down() {
     for road in tied::all() {
         assert_eq!(first_plan(&road.sheet), Some(road.plan), "{}", road.name);
+    }
+    for road in framed::all() {
+        let plan = (road.answer[0] == 0).then_some(road.plan);
+        assert_eq!(first_plan(&road.sheet), plan, "{}", road.name);
     }
 }
 

@@ -4,7 +4,7 @@ use second::build::tight;
 use second::limits::{COUNT, NO_PARENT, PAIR};
 use second::measured::{m, m_barred, roads};
 use second::random::{Random, Size, case};
-use second::{Cabinet, Layout, Sheet, Stream, barred, build, copies, tied};
+use second::{Cabinet, Layout, Sheet, Stream, barred, build, copies, framed, tied};
 
 /// The sizes of the random roads.
 const SIZE: Size = Size {
@@ -13,7 +13,8 @@ const SIZE: Size = Size {
 };
 
 /// Measured roads, sheets at the planning program's own limits, sheets with barred pairs, roads that
-/// tie and sheets in odd forms which are written down, and so many random cases.
+/// tie, roads that framing decides and sheets in odd forms which are written down, and so many
+/// random cases.
 pub fn all(cases: usize, seed: u64) -> Vec<(String, Vec<u8>)> {
     let mut sheets: Vec<(String, Vec<u8>)> = vec![];
     for road in roads() {
@@ -27,6 +28,9 @@ pub fn all(cases: usize, seed: u64) -> Vec<(String, Vec<u8>)> {
     }
     for road in tied::all() {
         sheets.push((format!("tied: {}", road.name), tight(&road.sheet)));
+    }
+    for road in framed::all() {
+        sheets.push((format!("framed: {}", road.name), tight(&road.sheet)));
     }
     for copied in copies::all() {
         sheets.push((format!("copied: {}", copied.name), copied.sheet));

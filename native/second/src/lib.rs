@@ -12,6 +12,7 @@ pub mod build;
 pub mod check;
 pub mod copies;
 pub mod form;
+pub mod framed;
 pub mod framing;
 pub mod hex;
 pub mod limits;
