@@ -1,6 +1,6 @@
 //! The check and its faults.
 
-use crate::loads::Load;
+use crate::loads::{Line, Load};
 use crate::{Fault, Faulty};
 use second::{Sheet, group};
 
@@ -49,10 +49,10 @@ impl Faulty {
             let bars_first = forbidden && self.has(Fault::CheckBarsBefore14);
             return (if bars_first { 20 } else { 14 }, 0);
         }
-        let (sums, largest) = self.loads(sheet, &plan);
-        let overfull = (0..s).any(|c| self.overfull(sheet, &plan, c, &sums[c], &largest[c]));
-        let jammed = (1..s).any(|c| self.jammed(sheet, c, &sums[c], &largest[c]));
-        let cost = self.cost(sheet, &plan, &sums);
+        let loads = self.loads(sheet, &plan);
+        let overfull = (0..s).any(|c| self.overfull(sheet, &plan, c, &loads[c]));
+        let jammed = (1..s).any(|c| self.jammed(sheet, c, &loads[c]));
+        let cost = self.cost(sheet, &plan, &loads);
         let refusal = self.first(forbidden, overfull, jammed);
         let given = refusal == 0 || self.has(Fault::CheckCostRefused);
         (refusal, if given { cost } else { 0 })
@@ -75,50 +75,54 @@ impl Faulty {
     }
 
     /// The cabinet holds too much.
-    fn overfull(&self, sheet: &Sheet, plan: &[u16], c: usize, sum: &Load, most: &Load) -> bool {
+    fn overfull(&self, sheet: &Sheet, plan: &[u16], c: usize, load: &Load) -> bool {
         let capacity = u64::from(sheet.cabinets[c].capacity);
         let used = plan.iter().any(|&place| usize::from(place) == c);
         match self.0 {
-            Some(Fault::CheckFill16) => sum.fill % 65_536 > capacity,
-            Some(Fault::CheckServiceAlone) => most.fill > capacity,
+            Some(Fault::CheckFill16) => load.fill % 65_536 > capacity,
+            Some(Fault::CheckServiceAlone) => load.largest > capacity,
             Some(Fault::CheckNoneOnZero) if capacity == 0 => used,
-            Some(Fault::CheckFull) => sum.fill > 0 && sum.fill >= capacity,
-            _ => sum.fill > capacity,
+            Some(Fault::CheckFull) => load.fill > 0 && load.fill >= capacity,
+            _ => load.fill > capacity,
         }
     }
 
     /// A direction of the cabinet's link carries too much.
-    fn jammed(&self, sheet: &Sheet, c: usize, sum: &Load, most: &Load) -> bool {
-        let up = u64::from(sheet.cabinets[c].up_capacity);
-        let down = u64::from(sheet.cabinets[c].down_capacity);
+    fn jammed(&self, sheet: &Sheet, c: usize, Load { up, down, .. }: &Load) -> bool {
+        let rise = u64::from(sheet.cabinets[c].up_capacity);
+        let fall = u64::from(sheet.cabinets[c].down_capacity);
         match self.0 {
-            Some(Fault::CheckStreamAlone) => most.up > up || most.down > down,
-            Some(Fault::CheckLink16) => sum.up % 65_536 > up || sum.down % 65_536 > down,
-            Some(Fault::CheckCapacitySwapped) => sum.up > down || sum.down > up,
-            Some(Fault::CheckTogether) => sum.up + sum.down > up.max(down),
-            Some(Fault::CheckDownFree) => sum.up > up,
+            Some(Fault::CheckStreamAlone) => up.largest > rise || down.largest > fall,
+            Some(Fault::CheckLink16) => up.load % 65_536 > rise || down.load % 65_536 > fall,
+            Some(Fault::CheckCapacitySwapped) => up.load > fall || down.load > rise,
+            Some(Fault::CheckTogether) => up.load + down.load > rise.max(fall),
+            Some(Fault::CheckDownFree) => up.load > rise,
             Some(Fault::CheckFullLink) => {
-                sum.up > 0 && sum.up >= up || sum.down > 0 && sum.down >= down
+                up.load > 0 && up.load >= rise || down.load > 0 && down.load >= fall
             }
-            _ => sum.up > up || sum.down > down,
+            _ => up.load > rise || down.load > fall,
         }
     }
 
-    fn cost(&self, sheet: &Sheet, plan: &[u16], sums: &[Load]) -> u64 {
+    fn cost(&self, sheet: &Sheet, plan: &[u16], loads: &[Load]) -> u64 {
         if self.has(Fault::CheckStreamCostOnce) {
-            return self.cost_once(sheet, plan, sums);
+            return self.cost_once(sheet, plan, loads);
         }
-        let charge = |(c, sum): (usize, &Load)| {
+        let charge = |(c, load): (usize, &Load)| {
             let cabinet = &sheet.cabinets[c];
             let (up, down) = match self.0 {
                 Some(Fault::CheckAlike) => (cabinet.up_price, cabinet.up_price),
                 Some(Fault::CheckSwapped) => (cabinet.down_price, cabinet.up_price),
                 _ => (cabinet.up_price, cabinet.down_price),
             };
-            let price = u64::from(cabinet.price);
-            sum.fill * price + sum.up * u64::from(up) + sum.down * u64::from(down)
+            let priced = |line: &Line| match self.has(Fault::CheckFramingPriced) {
+                true => line.load,
+                false => line.demand,
+            };
+            let links = priced(&load.up) * u64::from(up) + priced(&load.down) * u64::from(down);
+            load.fill * u64::from(cabinet.price) + links
         };
-        let cost: u64 = sums.iter().enumerate().map(charge).sum();
+        let cost: u64 = loads.iter().enumerate().map(charge).sum();
         match self.has(Fault::CheckCost32) {
             true => cost % (1 << 32),
             false => cost,
@@ -126,8 +130,8 @@ impl Faulty {
     }
 
     /// The cost when each stream pays for the first link of its path only.
-    fn cost_once(&self, sheet: &Sheet, plan: &[u16], sums: &[Load]) -> u64 {
-        let fills = sums.iter().zip(&sheet.cabinets);
+    fn cost_once(&self, sheet: &Sheet, plan: &[u16], loads: &[Load]) -> u64 {
+        let fills = loads.iter().zip(&sheet.cabinets);
         let fills: u64 = fills.map(|(l, c)| l.fill * u64::from(c.price)).sum();
         let first = |stream| {
             let price = match self.walk(sheet, plan, stream).first() {

@@ -8,7 +8,9 @@ mod copy;
 mod fault;
 mod figures;
 mod fourth;
+mod framing;
 mod keys;
+mod link;
 mod loads;
 mod planner;
 mod reader;
@@ -22,7 +24,7 @@ pub use subject::Faulty;
 
 use differ::{Tally, compare, compare_bounds};
 use second::random::{Random, Size, case};
-use second::{barred, copies, tied};
+use second::{barred, copies, framed, tied};
 
 /// The sizes of the random roads.
 const SIZE: Size = Size {
@@ -30,9 +32,9 @@ const SIZE: Size = Size {
     cabinets: 6,
 };
 
-/// Compares up to so many random cases, then those written down for barred pairs, for ties and for
-/// tidy copies, then the bound for all numbers around the limits. Gives the first case that shows a
-/// difference, and the first line of what it shows.
+/// Compares up to so many random cases, then those written down for barred pairs, for ties, for
+/// framing and for tidy copies, then the bound for all numbers around the limits. Gives the first
+/// case that shows a difference, and the first line of what it shows.
 pub fn first_difference(fault: Option<Fault>, cases: usize, seed: u64) -> Option<(String, String)> {
     let subject = Faulty(fault);
     let mut random = Random::new(seed);
@@ -45,8 +47,9 @@ pub fn first_difference(fault: Option<Fault>, cases: usize, seed: u64) -> Option
     }
     let barred = barred::all().into_iter().map(|d| (d.name, d.case()));
     let tied = tied::all().into_iter().map(|t| (t.name, t.case()));
+    let framed = framed::all().into_iter().map(|f| (f.name, f.case()));
     let copies = copies::all().into_iter().map(|c| (c.name, c.case()));
-    for (name, case) in barred.chain(tied).chain(copies) {
+    for (name, case) in barred.chain(tied).chain(framed).chain(copies) {
         if let Err(what) = compare(&subject, &case, &mut random, &mut tally) {
             return Some((name.to_string(), first_line(&what)));
         }

@@ -1,14 +1,35 @@
 //! What a plan puts on cabinets and links, by walking both ends of a stream to where they meet.
 
 use crate::{Fault, Faulty};
+use second::framing::taken;
 use second::{Sheet, Stream};
 
-/// Demands on a cabinet, and on the two directions of its link.
-#[derive(Clone, Copy, Default)]
+/// The streams that run up the link of a cabinet, and those that run down.
+pub type Runs = [Vec<Stream>; 2];
+
+/// What is on one direction of a link.
+#[derive(Clone, Copy)]
+pub struct Line {
+    /// The demands of its streams.
+    pub demand: u64,
+    /// The same with framing.
+    pub load: u64,
+    /// The most that one stream takes.
+    pub largest: u64,
+}
+
+/// What is on a cabinet, and on the two directions of its link.
 pub struct Load {
     pub fill: u64,
-    pub up: u64,
-    pub down: u64,
+    /// The largest demand of a service there.
+    pub largest: u64,
+    pub up: Line,
+    pub down: Line,
+}
+
+/// The demands of streams, summed up.
+pub fn demand(streams: &[Stream]) -> u64 {
+    streams.iter().map(|stream| u64::from(stream.demand)).sum()
 }
 
 /// The streams without those that join a pair that was joined before.
@@ -25,33 +46,52 @@ pub fn one_a_pair(streams: &[Stream]) -> Vec<Stream> {
     kept
 }
 
+/// The line that these streams run along with this framing.
+fn line(streams: &[Stream], framing: u64) -> Line {
+    let alone = streams.iter().map(|stream| taken(stream.demand));
+    Line {
+        demand: demand(streams),
+        load: demand(streams) + framing,
+        largest: alone.max().unwrap_or(0),
+    }
+}
+
 impl Faulty {
-    /// The loads of a plan, and the same when every sum is only the largest of its terms.
-    pub fn loads(&self, sheet: &Sheet, plan: &[u16]) -> (Vec<Load>, Vec<Load>) {
-        let mut sums = vec![Load::default(); sheet.cabinets.len()];
-        let mut largest = sums.clone();
-        for (&cabinet, &demand) in plan.iter().zip(&sheet.services) {
-            let c = usize::from(cabinet);
-            sums[c].fill += u64::from(demand);
-            largest[c].fill = largest[c].fill.max(u64::from(demand));
-        }
+    /// What a plan puts on each cabinet and link.
+    pub fn loads(&self, sheet: &Sheet, plan: &[u16]) -> Vec<Load> {
+        let runs = self.runs(sheet, plan, usize::MAX);
+        let framed = match self.has(Fault::CheckFramingFirstLink) {
+            true => self.runs(sheet, plan, 1),
+            false => runs.clone(),
+        };
+        let load = |(c, [up, down]): (usize, &Runs)| {
+            let framing = self.check_manner().framing(&framed[c]);
+            let services = plan.iter().zip(&sheet.services);
+            let there = services.filter(|(place, _)| usize::from(**place) == c);
+            let demands: Vec<u64> = there.map(|(_, &demand)| u64::from(demand)).collect();
+            Load {
+                fill: demands.iter().sum(),
+                largest: demands.iter().copied().max().unwrap_or(0),
+                up: line(up, framing[0]),
+                down: line(down, framing[1]),
+            }
+        };
+        runs.iter().enumerate().map(load).collect()
+    }
+
+    /// The streams on each link, each on so many links of its path at most.
+    fn runs(&self, sheet: &Sheet, plan: &[u16], links: usize) -> Vec<Runs> {
+        let mut runs = vec![Runs::default(); sheet.cabinets.len()];
         let streams = match self.has(Fault::CheckPairAsOne) {
             true => one_a_pair(&sheet.streams),
             false => sheet.streams.clone(),
         };
         for stream in streams {
-            let demand = u64::from(stream.demand);
-            for (c, up) in self.walk(sheet, plan, &stream) {
-                if up {
-                    sums[c].up += demand;
-                    largest[c].up = largest[c].up.max(demand);
-                } else {
-                    sums[c].down += demand;
-                    largest[c].down = largest[c].down.max(demand);
-                }
+            for (c, up) in self.walk(sheet, plan, &stream).into_iter().take(links) {
+                runs[c][usize::from(!up)].push(stream);
             }
         }
-        (sums, largest)
+        runs
     }
 
     /// The links of a stream's path: the cabinet below, and whether it is taken upwards.

@@ -89,7 +89,7 @@ impl Faulty {
     }
 
     /// The rows, which hold at first what the tables held.
-    fn rows(&self, sheet: &Sheet, costs: &[u64], choices: &[u16]) -> Rows {
+    pub fn rows(&self, sheet: &Sheet, costs: &[u64], choices: &[u16]) -> Rows {
         let (s, n) = (sheet.cabinets.len(), 1_usize << sheet.services.len());
         let cost = |i: usize| costs.get(i).copied().unwrap_or(0);
         let choice = |i: usize| usize::from(choices.get(i).copied().unwrap_or(0));

@@ -1,12 +1,11 @@
 //! The rows of the planner and their faults.
 
 use crate::keys::Key;
-use crate::loads::one_a_pair;
 use crate::ties::{Best, Split};
 use crate::{Fault, Faulty};
+use second::Sheet;
 use second::path::Paths;
 use second::splits::{count_over, part_before};
-use second::{Sheet, Stream};
 
 /// A figure that is no cost.
 pub const NONE: u64 = 1_000_000_000_000_001;
@@ -54,6 +53,7 @@ impl Faulty {
     /// Counts made in another way than by joining.
     fn recount(&self, sheet: &Sheet, rows: &mut Rows) {
         let (r, s) = (sheet.services.len(), sheet.cabinets.len());
+        rows.count = self.other_framing(sheet).unwrap_or(rows.count);
         match self.0 {
             Some(Fault::PlanLargerLeftOut) => {
                 let smaller = |c: usize| {
@@ -97,49 +97,6 @@ impl Faulty {
         }
     }
 
-    /// What the link of c charges for a set below it, of all services or of those in `whole`.
-    fn link(&self, sheet: &Sheet, c: usize, set: usize, whole: usize) -> u64 {
-        let streams = match self.has(Fault::PlanPairAsOne) {
-            true => one_a_pair(&sheet.streams),
-            false => sheet.streams.clone(),
-        };
-        let all = !self.has(Fault::PlanOuterStreams);
-        let holds = |set: usize, end: u16| set >> end & 1 == 1;
-        let counts = |t: &Stream| all || holds(whole, t.from) && holds(whole, t.to);
-        let crossing = |up: bool| -> Vec<u64> {
-            let crosses =
-                |t: &&Stream| counts(t) && holds(set, t.from) == up && holds(set, t.to) != up;
-            let streams = streams.iter().filter(crosses);
-            streams.map(|t| u64::from(t.demand)).collect()
-        };
-        let cabinet = &sheet.cabinets[c];
-        let (up, down) = (crossing(true), crossing(false));
-        let (mut rise, mut fall) = (cabinet.up_capacity, cabinet.down_capacity);
-        if self.has(Fault::PlanCapacitySwapped) {
-            (rise, fall) = (fall, rise);
-        }
-        if !self.carried(&up, rise) || !self.carried(&down, fall) {
-            return NONE;
-        }
-        let down_price = match self.has(Fault::PlanAlike) {
-            true => cabinet.up_price,
-            false => cabinet.down_price,
-        };
-        up.iter().sum::<u64>() * u64::from(cabinet.up_price)
-            + down.iter().sum::<u64>() * u64::from(down_price)
-    }
-
-    /// The demands fit in the capacity.
-    fn carried(&self, demands: &[u64], capacity: u16) -> bool {
-        let capacity = u64::from(capacity);
-        let sum: u64 = demands.iter().sum();
-        match self.0 {
-            Some(Fault::PlanStreamAlone) => demands.iter().all(|&d| d <= capacity),
-            Some(Fault::PlanLink16) => sum % 65_536 <= capacity,
-            _ => sum <= capacity,
-        }
-    }
-
     /// Weighs all splits between p with what was joined to it and c.
     fn join(&self, sheet: &Sheet, p: usize, c: usize, rows: &mut Rows) {
         let n = 1 << sheet.services.len();
@@ -149,8 +106,9 @@ impl Faulty {
             true => (0..n).collect(),
             false => (0..n).rev().collect(),
         };
+        let by_set = self.has(Fault::PlanOuterStreams) || self.has(Fault::PlanFramingWithin);
         for set in sets {
-            let charge = |rest: usize| match self.has(Fault::PlanOuterStreams) {
+            let charge = |rest: usize| match by_set {
                 true => self.link(sheet, c, rest, set),
                 false => link[rest],
             };

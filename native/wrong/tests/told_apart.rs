@@ -1,6 +1,7 @@
 //! Every fault is seen within some thousand cases, and none where there is none.
 
-use differ::{Tally, compare_bounds};
+use differ::{Tally, compare, compare_bounds};
+use second::framed;
 use second::random::Random;
 use wrong::{Fault, Faulty, first_difference};
 
@@ -29,4 +30,20 @@ fn every_fault_of_the_bound_is_seen_by_the_bounds_alone() {
         }
     }
     assert!(seen >= 10);
+}
+
+#[test]
+fn every_fault_of_framing_is_seen_by_the_roads_written_down_for_it() {
+    let mut seen = 0;
+    for &fault in Fault::ALL {
+        if fault.sentence().starts_with("framing in") {
+            let (mut random, mut tally) = (Random::new(7), Tally::default());
+            let subject = Faulty(Some(fault));
+            let mut cases = framed::all().into_iter().map(|road| road.case());
+            let differs = cases.any(|c| compare(&subject, &c, &mut random, &mut tally).is_err());
+            assert!(differs, "not seen: {}", fault.sentence());
+            seen += 1;
+        }
+    }
+    assert!(seen >= 25);
 }
