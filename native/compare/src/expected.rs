@@ -4,8 +4,8 @@ use crate::Options;
 use differ::Tally;
 use second::form::Form;
 
-/// So many random cases must have among them plans of which others cost as much, every kind of
-/// answer of the writer, and sheets of every form.
+/// So many random cases must have among them plans of which others cost as much, plans and roads
+/// that framing decides, every kind of answer of the writer, and sheets of every form.
 const ENOUGH_CASES: usize = 1000;
 /// So many large roads must have among them some with such plans.
 const ENOUGH_LARGE: usize = 40;
@@ -28,6 +28,17 @@ pub fn missing(options: &Options, before: &Tally, after: &Tally) -> Option<Strin
     if after.tied() == before.tied() {
         return Some("no random road had two cheapest plans".to_string());
     }
+    if after.framed_plans() == before.framed_plans() {
+        return Some("no random plan was refused for framing alone".to_string());
+    }
+    if after.framed_roads() == before.framed_roads() {
+        return Some("no random road had an answer that framing decides".to_string());
+    }
+    copies(before, after)
+}
+
+/// What the copies of random sheets did not show.
+fn copies(before: &Tally, after: &Tally) -> Option<String> {
     let times = |tally: &Tally, answers: &[u64]| -> usize {
         answers
             .iter()
@@ -50,11 +61,14 @@ mod tests {
     use super::*;
     use second::copies;
 
-    /// A tally after ties, these answers of the writer, and the copies of these sheets.
+    /// A tally after ties, what framing decides, these answers of the writer, and the copies of
+    /// these sheets.
     fn tally(answers: &[u64], sheets: &[&str]) -> Tally {
         let mut tally = Tally::default();
         tally.tie(false);
         tally.tie(true);
+        tally.framed_plan();
+        tally.framed_road();
         for &answer in answers {
             tally.answer("tidy", answer);
         }
@@ -91,6 +105,26 @@ mod tests {
         assert!(missed(&options).is_some_and(|what| what.contains("random road")));
         options.cases = 999;
         assert_eq!(missed(&options), None);
+    }
+
+    #[test]
+    fn framing() {
+        let mut after = Tally::default();
+        after.tie(false);
+        after.tie(true);
+        let missed = |after: &Tally| since_nothing(after).unwrap_or_default();
+        assert!(missed(&after).contains("for framing alone"));
+        after.framed_plan();
+        assert!(missed(&after).contains("framing decides"));
+        after.framed_road();
+        assert!(missed(&after).contains("copied"));
+        let before = after.clone();
+        after.tie(false);
+        after.tie(true);
+        let stale = |after: &Tally| missing(&Options::default(), &before, after);
+        assert!(stale(&after).is_some_and(|what| what.contains("for framing alone")));
+        after.framed_plan();
+        assert!(stale(&after).is_some_and(|what| what.contains("framing decides")));
     }
 
     #[test]

@@ -13,11 +13,11 @@ use second::random::case::{Origin, with_calls};
 use second::random::layout::layout;
 use second::random::road::{Kind, of_kind};
 use second::random::{Case, Random, Size, case};
-use second::{barred, copies, tied};
+use second::{barred, copies, framed, tied};
 
 /// Compares the bound for all numbers around the limits, then all cases: those written down for
-/// barred pairs, for ties and for tidy copies, random ones, and large roads. The error is the first
-/// difference in full, or what enough random cases should have shown and did not.
+/// barred pairs, for ties, for framing and for tidy copies, random ones, and large roads. The error
+/// is the first difference in full, or what enough random cases should have shown and did not.
 pub fn run(options: &Options) -> Result<Tally, String> {
     let mut tally = Tally::default();
     let mut random = Random::new(options.seed);
@@ -45,12 +45,13 @@ pub fn run(options: &Options) -> Result<Tally, String> {
     }
 }
 
-/// The cases written down for barred pairs, for ties and for tidy copies, by name.
+/// The cases written down for barred pairs, for ties, for framing and for tidy copies, by name.
 fn written_down() -> impl Iterator<Item = (&'static str, Case)> {
     let barred = barred::all().into_iter().map(|d| (d.name, d.case()));
     let tied = tied::all().into_iter().map(|t| (t.name, t.case()));
+    let framed = framed::all().into_iter().map(|f| (f.name, f.case()));
     let copies = copies::all().into_iter().map(|c| (c.name, c.case()));
-    barred.chain(tied).chain(copies)
+    barred.chain(tied).chain(framed).chain(copies)
 }
 
 /// A road with too many plans to try.

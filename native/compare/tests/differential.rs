@@ -24,6 +24,8 @@ fn no_difference_and_every_refusal() {
         assert!(tally.times("tidy", refusal) > 0, "tidy: {refusal}");
     }
     assert!(tally.tied() > 200, "{} plans tied", tally.tied());
+    let framed = [tally.framed_plans(), tally.framed_roads()];
+    assert!(framed.iter().all(|&times| times > 50), "{framed:?}");
     for found in [0, 1] {
         assert!(tally.times("barred", found) > 0, "barred: {found}");
     }

@@ -3,6 +3,7 @@
 use crate::alike::Alike;
 use crate::guarded::{Guarded, same};
 use crate::{Subject, Tally};
+use second::check::only_framing;
 use second::group;
 use second::random::Random;
 
@@ -19,7 +20,11 @@ pub fn check(
         judge(subject, sheet, plan, right, random)?;
         tally.answer("check", right.err().unwrap_or(0));
         Ok(())
-    })
+    })?;
+    if second::read(alike.sheet).is_ok_and(|records| only_framing(&records, plan)) {
+        tally.framed_plan();
+    }
+    Ok(())
 }
 
 /// One call, which must give this cost or refusal.

@@ -25,7 +25,21 @@ pub fn plan(
     if right.ties > 0 {
         tally.tie(is_large(alike.sheet));
     }
+    if framing_decides(alike.sheet, &right) {
+        tally.framed_road();
+    }
     Ok(())
+}
+
+/// The right answer is a plan or 12, and its cost, refusal or count would be another if framing took
+/// no line.
+fn framing_decides(sheet: &[u8], right: &Answer) -> bool {
+    let figures = match right.refusal {
+        0 => (Some(right.cost), right.count),
+        12 => (None, right.count),
+        _ => return false,
+    };
+    second::read(sheet).is_ok_and(|records| plain::figures(&records, 0) != figures)
 }
 
 /// One call, which must give this answer.

@@ -1,5 +1,5 @@
-//! Counts of cases by kind, of calls by answer, of plans that were not the only cheapest, and of
-//! the forms of sheets that were copied.
+//! Counts of cases by kind, of calls by answer, of plans that were not the only cheapest, of what
+//! framing decided, and of the forms of sheets that were copied.
 
 use second::form::{Form, forms};
 use second::random::Case;
@@ -14,6 +14,8 @@ pub struct Tally {
     answers: BTreeMap<&'static str, BTreeMap<u64, usize>>,
     tied: usize,
     tied_large: usize,
+    framed_plans: usize,
+    framed_roads: usize,
     forms: BTreeMap<Form, usize>,
 }
 
@@ -49,6 +51,26 @@ impl Tally {
     /// How many are known to have had them on large roads.
     pub fn tied_large(&self) -> usize {
         self.tied_large
+    }
+
+    /// Notes a plan that the check refused and that would be valid if framing took no line.
+    pub fn framed_plan(&mut self) {
+        self.framed_plans += 1;
+    }
+
+    /// Notes a road whose least cost, refusal or count would be another if framing took no line.
+    pub fn framed_road(&mut self) {
+        self.framed_roads += 1;
+    }
+
+    /// How many plans were refused for framing alone.
+    pub fn framed_plans(&self) -> usize {
+        self.framed_plans
+    }
+
+    /// How many times the planner's answer was one that framing decided.
+    pub fn framed_roads(&self) -> usize {
+        self.framed_roads
     }
 
     /// Notes the form of a sheet whose tidy copy was compared.
@@ -89,6 +111,9 @@ impl Display for Tally {
         writeln!(f, "plans of which others cost as much:")?;
         writeln!(f, "{:9} on roads whose every plan was tried", self.tied)?;
         writeln!(f, "{:9} on large roads, or more", self.tied_large)?;
+        writeln!(f, "decided by framing:")?;
+        writeln!(f, "{:9} plans refused", self.framed_plans)?;
+        writeln!(f, "{:9} roads planned or refused", self.framed_roads)?;
         writeln!(f, "sheets copied, by form:")?;
         for (form, times) in &self.forms {
             writeln!(f, "{times:9} {form:?}")?;
