@@ -124,7 +124,8 @@ pub fn barred(sheet: &[u8], number: usize) -> Option<Pair> {
     found.then_some(Pair { service, cabinet })
 }
 
-/// The cost of a plan that gives each service a cabinet.
+/// The cost of a plan that gives each service a cabinet. The framing of streams takes line, which the
+/// links must have room for, and costs nothing.
 pub fn check(sheet: &[u8], plan: &[u16]) -> Result<u64, Refusal> {
     let mut answer = [0; 2];
     let number = calls::check(sheet, plan, &mut answer);

@@ -55,7 +55,7 @@ impl Display for Refusal {
             13 => "the plan hasn't one place a service",
             14 => "the plan names a cabinet that isn't there",
             15 => "a cabinet is overfull",
-            16 => "a link direction is overfull",
+            16 => "a link direction is overfull, framing counted",
             18 => "the block of barred pairs is not within the sheet, has too many pairs, or shares a byte",
             19 => "a barred pair names no service or no cabinet",
             20 => "a service is on a cabinet that it is barred from",

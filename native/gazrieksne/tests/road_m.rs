@@ -74,6 +74,37 @@ fn check_and_plan() {
     assert_eq!((refusal.number, refusal.group), (10, Group::Lender));
 }
 
+/// M with root capacity 0 and another up capacity of cabinet 1.
+fn m0(up: u16) -> Vec<u8> {
+    let mut words = M;
+    words[11] = 0;
+    words[20] = up;
+    words.iter().flat_map(|w| w.to_le_bytes()).collect()
+}
+
+/// The stream of 3 takes 5 of its line, of which 3 are priced.
+#[test]
+fn framing() {
+    let (mut output, mut costs, mut choices) = ([9; 2], [9; 12], [9; 12]);
+    assert_eq!(gazrieksne::check(&m0(5), &[1, 2]), Ok(15));
+    let planned = gazrieksne::plan(&m0(5), &mut output, &mut costs, &mut choices);
+    let right = Planned {
+        cost: 15,
+        count: 12,
+    };
+    assert_eq!((planned, output), (Ok(right), [1, 2]));
+    let refusal = gazrieksne::check(&m0(4), &[1, 2]).unwrap_err();
+    assert_eq!((refusal.number, refusal.group), (16, Group::PlanWriter));
+    assert!(refusal.to_string().contains("framing"));
+    let planned = gazrieksne::plan(&m0(4), &mut output, &mut costs, &mut choices);
+    let no_plan = Refusal {
+        number: 12,
+        group: Group::Road,
+        count: 10,
+    };
+    assert_eq!((planned, output), (Err(no_plan), [1, 2]));
+}
+
 #[test]
 fn barred_pairs() {
     let sheet = m_barred(&[[0, 0], [1, 2]]);
