@@ -21,7 +21,8 @@ pub fn check(
         tally.answer("check", right.err().unwrap_or(0));
         Ok(())
     })?;
-    if second::read(alike.sheet).is_ok_and(|records| only_framing(&records, plan)) {
+    let records = second::read(alike.sheet);
+    if records.is_ok_and(|records| only_framing(&records, plan)) {
         tally.framed_plan();
     }
     Ok(())

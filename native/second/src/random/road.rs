@@ -5,7 +5,8 @@ use super::amounts::{Scale, ample, capacities, just_enough, one_less, prices};
 use super::bars::bars;
 use super::case::Size;
 use super::tied::{self, renumber, room, tie, tied};
-use crate::limits::{NO_PARENT, SERVICES, STREAMS};
+use crate::framing::FRAMING;
+use crate::limits::{AMOUNT, NO_PARENT, SERVICES, STREAMS};
 use crate::sheet::{Cabinet, Sheet, Stream};
 
 /// What is special about a road.
@@ -217,7 +218,7 @@ fn framed(random: &mut Random, size: Size) -> Sheet {
     for cabinet in &mut sheet.cabinets {
         cabinet.capacity += random.below(2) as u16;
         for capacity in [&mut cabinet.up_capacity, &mut cabinet.down_capacity] {
-            let lacking = random.pick(&[0, 0, 0, 1, 2]);
+            let lacking = random.pick(&[0, 0, 0, 1, FRAMING as u16]);
             *capacity = capacity.saturating_sub(lacking);
         }
     }
@@ -274,7 +275,7 @@ fn long(random: &mut Random) -> Sheet {
     let mut sheet = Sheet {
         services: vec![10_000, 10_000],
         cabinets: vec![Cabinet::default(); s],
-        streams: vec![Stream::from_words([0, 1, 9_998])],
+        streams: vec![Stream::from_words([0, 1, AMOUNT - FRAMING as u16])],
         barred: vec![],
     };
     ample(&mut sheet.cabinets);
