@@ -73,7 +73,7 @@ fn under_the_root() -> Vec<Framed> {
     ]
 }
 
-/// Cabinet 3, under 1, has room for one service in its stead.
+/// Cabinet 3, under 1, has room for one service in its stead; before 3 none can be placed either.
 fn two_links_down() -> Vec<Framed> {
     const NONE: u64 = 3 * 4;
     let road = |[up_1, up_3, down_1, down_3]: [u16; 4]| {
@@ -83,28 +83,13 @@ fn two_links_down() -> Vec<Framed> {
         sheet.cabinets.push(third);
         sheet
     };
+    let short = |name, capacities| counted(name, road(capacities), NONE + 2);
     vec![
         counted("two links down", road([5; 4]), NONE + 4),
-        counted(
-            "two links down, short up at 1",
-            road([4, 5, 5, 5]),
-            NONE + 2,
-        ),
-        counted(
-            "two links down, short up at 3",
-            road([5, 4, 5, 5]),
-            NONE + 2,
-        ),
-        counted(
-            "two links down, short down at 1",
-            road([5, 5, 4, 5]),
-            NONE + 2,
-        ),
-        counted(
-            "two links down, short down at 3",
-            road([5, 5, 5, 4]),
-            NONE + 2,
-        ),
+        short("two links down, short up at 1", [4, 5, 5, 5]),
+        short("two links down, short up at 3", [5, 4, 5, 5]),
+        short("two links down, short down at 1", [5, 5, 4, 5]),
+        short("two links down, short down at 3", [5, 5, 5, 4]),
     ]
 }
 
@@ -114,7 +99,7 @@ fn ways(words: [[u16; 3]; 2]) -> Sheet {
     let way = |[price, down, down_price]: [u16; 3]| {
         Cabinet::from_words([0, 1, price, 0, 0, down, down_price])
     };
-    let root = Cabinet::from_words([NO_PARENT, 2, 1, 0, 0, 0, 0]);
+    let root = Cabinet::from_words([NO_PARENT, 2, 2, 0, 0, 0, 0]);
     Sheet {
         services: vec![2, 1],
         cabinets: vec![root, way(words[0]), way(words[1])],
@@ -132,19 +117,19 @@ fn dearer_way() -> Vec<Framed> {
     let road = |cheap, dear| ways([[1, cheap, 1], [2, dear, 4]]);
     let jammed = ([0, 1], Err(16));
     vec![
-        Framed::planned("the cheaper way", road(5, 5), [6, EITHER + 1], &[0, 1])
-            .checked(&[([0, 2], Ok(16))]),
-        Framed::planned("the dearer way", road(4, 5), [16, EITHER], &[0, 2]).checked(&[jammed]),
+        Framed::planned("the cheaper way", road(5, 5), [8, EITHER + 1], &[0, 1])
+            .checked(&[([0, 2], Ok(18))]),
+        Framed::planned("the dearer way", road(4, 5), [18, EITHER], &[0, 2]).checked(&[jammed]),
         Framed::refused("neither way", road(4, 4), EITHER, &[0, 2]).checked(&[jammed]),
     ]
 }
 
-/// The first way costs 3 + 3 × 4 and the second 7 + 3 × 3; with framing priced the second would be
+/// The first way costs 5 + 3 × 4 and the second 9 + 3 × 3; with framing priced the second would be
 /// the cheaper one.
 fn unpriced() -> Vec<Framed> {
     let road = ways([[1, 5, 4], [5, 5, 3]]);
-    let road = Framed::planned("framing is not priced", road, [15, EITHER + 1], &[0, 1]);
-    vec![road.checked(&[([0, 2], Ok(16))])]
+    let road = Framed::planned("framing is not priced", road, [17, EITHER + 1], &[0, 1]);
+    vec![road.checked(&[([0, 2], Ok(18))])]
 }
 
 /// The sheet with one pair barred.
@@ -157,24 +142,15 @@ fn barring(mut sheet: Sheet, pair: [u16; 2]) -> Sheet {
 fn barred_ways() -> Vec<Framed> {
     let road = |cheap, dear, pair| barring(ways([[1, cheap, 1], [2, dear, 4]]), pair);
     let (cheap, dear) = (([0, 1], Err(20)), ([0, 2], Err(20)));
-    let left = |name, sheet, figures, plan| Framed::planned(name, sheet, figures, plan);
+    let only_2 = Framed::planned("2 left", road(5, 5, [1, 1]), [18, EITHER], &[0, 2]);
+    let only_1 = Framed::planned("1 left", road(5, 5, [1, 2]), [8, EITHER + 1], &[0, 1]);
+    let short_2 = Framed::refused("2 left, short", road(5, 4, [1, 1]), EITHER, &[0, 2]);
+    let short_1 = Framed::refused("1 left, short", road(4, 5, [1, 2]), EITHER, &[0, 1]);
     vec![
-        left(
-            "1 barred, 2 left",
-            road(5, 5, [1, 1]),
-            [16, EITHER],
-            &[0, 2],
-        )
-        .checked(&[cheap]),
-        left(
-            "2 barred, 1 left",
-            road(5, 5, [1, 2]),
-            [6, EITHER + 1],
-            &[0, 1],
-        )
-        .checked(&[dear]),
-        Framed::refused("1 barred, 2 short", road(5, 4, [1, 1]), EITHER, &[0, 2]).checked(&[cheap]),
-        Framed::refused("2 barred, 1 short", road(4, 5, [1, 2]), EITHER, &[0, 1]).checked(&[dear]),
+        only_2.checked(&[cheap]),
+        only_1.checked(&[dear]),
+        short_2.checked(&[cheap]),
+        short_1.checked(&[dear]),
     ]
 }
 
