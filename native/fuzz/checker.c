@@ -5,6 +5,7 @@
 
 #include "gazrieksne.h"
 #include "layout.h"
+#include "loads.h"
 #include "refusals.h"
 #include "require.h"
 
@@ -45,7 +46,7 @@ static int is_overfull(const uint8_t *sheet, const uint16_t *plan, size_t places
     return 0;
 }
 
-/* The number that must be given; 0 where 16 may apply or none. */
+/* The number that must be given, as far as links do not matter. */
 static uint64_t first_refusal(const struct run *run, const struct reading *reading,
                               const uint16_t *plan, size_t places)
 {
@@ -60,21 +61,43 @@ static uint64_t first_refusal(const struct run *run, const struct reading *readi
     return is_overfull(run->input->sheet, plan, places) ? 15 : 0;
 }
 
+/* What must be told: the number, the cost, and what the plan is like. */
+static struct checking expect(const struct run *run, const struct reading *reading,
+                              const uint16_t *plan, size_t places)
+{
+    const uint8_t *sheet = run->input->sheet;
+    struct checking expected = {first_refusal(run, reading, plan, places), {0, 0}, 0, 0};
+    struct loads loads;
+
+    if (expected.number != 0)
+        return expected;
+    reckon_loads(&loads, sheet, plan);
+    if (has_overfull_line(sheet, &loads, FRAMING)) {
+        expected.number = 16;
+        expected.overfull_by_framing = !has_overfull_line(sheet, &loads, 0);
+    } else {
+        expected.answer[1] = cost_of(sheet, plan, &loads);
+        expected.idle_stream = has_idle_stream(sheet, &loads);
+    }
+    return expected;
+}
+
 struct checking check_plan(const struct run *run, const struct reading *reading,
                            const uint16_t *plan, size_t places)
 {
     const uint8_t *sheet = lend_sheet(run);
     const uint16_t *lent = lend_plan(run, plan, places);
     uint64_t *answer = lend_result(run, 2);
-    uint64_t expected = first_refusal(run, reading, plan, places);
-    struct checking checking;
+    struct checking checking = expect(run, reading, plan, places);
+    uint64_t cost = checking.answer[1];
+    uint64_t number = gz_check(sheet, run->input->sheet_len, lent, places, answer);
 
-    checking.number = gz_check(sheet, run->input->sheet_len, lent, places, answer);
-    if (expected != 0 || checking.number != 16)
-        require_number(checking.number, expected);
-    take_result(run, checking.number, answer, 2, checking.answer);
-    require(checking.number == 0 || checking.answer[1] == 0,
-            "gz_check: the cost is 0 in a refusal");
+    require_number(number, checking.number);
+    take_result(run, number, answer, 2, checking.answer);
+    require(number == 0 || checking.answer[1] == 0, "gz_check: the cost is 0 in a refusal");
+    require(checking.answer[1] == cost,
+            "Its cost is demand times price, summed over the services (by their cabinets) and over "
+            "each link of each stream's path (by the direction taken); framing is not priced");
     require_sheet_kept(run, sheet);
     require(memcmp(lent, plan, places * sizeof *plan) == 0,
             "A call writes nothing but what is told with it (plan)");

@@ -8,10 +8,12 @@
 #include "lent.h"
 #include "reader.h"
 
-/* The number that gz_check returned, and what it told. */
+/* The number that gz_check returned, what it told, and what the plan is like. */
 struct checking {
     uint64_t number;
-    uint64_t answer[2]; /* group, cost */
+    uint64_t answer[2];      /* group, cost */
+    int overfull_by_framing; /* refused with 16, and valid but for framing */
+    int idle_stream;         /* valid, with a stream of demand 0 on a direction of capacity 0 */
 };
 
 /* True if the plan has a service on a cabinet that an accepted sheet bars it from. */

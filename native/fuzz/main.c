@@ -19,7 +19,7 @@ static const char usage[] =
     "usage: fuzz [INPUTS [SEED]]\n"
     "Makes INPUTS inputs (default %d) from SEED (default %d), runs the target on each, and prints\n"
     "how often each answer was met. From %d inputs on, an answer that a call may give and never\n"
-    "gave is a failure too, and so is that no plan was met that costs as much as one written.\n";
+    "gave is a failure too, and so is a kind of plans told below the answers that was never met.\n";
 
 /* The input under way, for the line that a failure ends with. */
 static char under_way[64];
@@ -140,7 +140,14 @@ static int tell_number(uint64_t number)
     return missing;
 }
 
-/* Prints the tally. Gives the number of answers never met; a tie is one of them. */
+/* Prints how often plans of a kind were met. Gives 1 if none was. */
+static int tell_plans(uint64_t plans, const char *kind)
+{
+    printf("%" PRIu64 " plans %s\n", plans, kind);
+    return plans == 0;
+}
+
+/* Prints the tally. Gives the number of answers and kinds of plans never met. */
 static int tell(void)
 {
     int missing = 0;
@@ -151,8 +158,10 @@ static int tell(void)
     for (number = 0; number <= LAST_REFUSAL; number++)
         if (is_given(number))
             missing += tell_number(number);
-    printf("%" PRIu64 " plans beside which another costs as much\n", tally.tied);
-    return missing + (tally.tied == 0);
+    missing += tell_plans(tally.tied, "beside which another costs as much");
+    missing += tell_plans(tally.framed, "refused with 16 for framing alone");
+    missing += tell_plans(tally.idle, "accepted with demand 0 over a link of capacity 0");
+    return missing;
 }
 
 /* A whole number in decimal; false if the text is anything else. */
@@ -180,6 +189,6 @@ int main(int argc, char **argv)
     missing = tell();
     if (missing == 0 || inputs < GATE_INPUTS)
         return 0;
-    fprintf(stderr, "%d answers were never met\n", missing);
+    fprintf(stderr, "%d answers or kinds of plans were never met\n", missing);
     return 1;
 }

@@ -32,7 +32,7 @@ static const struct refusal {
     {14, PLAN_WRITER, "14  a cabinet number is not below s"},
     {20, PLAN_WRITER, "20  a service is on a cabinet that it is barred from"},
     {15, PLAN_WRITER, "15  a cabinet is overfull"},
-    {16, PLAN_WRITER, "16  a direction of a link is overfull"},
+    {16, PLAN_WRITER, "16  a direction of a link is overfull, framing counted"},
     {21, LENDER, "21  the output is shorter than the sheet that is to be written there"},
     {0, NOBODY, "group 0: no refusal"},
 };

@@ -146,6 +146,8 @@ static void count(const struct outcome *outcome)
     tally.met[FIND][outcome->planning.number]++;
     tally.met[TIDY][outcome->tidying]++;
     tally.tied += outcome->ties > 0;
+    tally.framed += outcome->checking.overfull_by_framing != 0;
+    tally.idle += outcome->checking.idle_stream != 0;
 }
 
 int LLVMFuzzerTestOneInput(const uint8_t *data, size_t size)
