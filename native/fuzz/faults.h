@@ -78,6 +78,7 @@ extern const struct fault sheet_faults[];
 extern const struct fault fourth_faults[];
 extern const struct fault reader_faults[];
 extern const struct fault checker_faults[];
+extern const struct fault framing_faults[];
 extern const struct fault planner_faults[];
 extern const struct fault first_faults[];
 extern const struct fault copy_faults[];
@@ -101,6 +102,12 @@ struct counts {
 };
 
 struct counts counts_of(struct sheet sheet);
+
+/* True if every plan of the road can be tried. */
+int has_few_plans(struct counts counts);
+
+/* Makes a plan the next one in order; false behind the last. */
+int next_plan(uint16_t *plan, struct counts counts);
 
 /* A copy of a sheet, to be changed. */
 extern uint8_t other_sheet[];

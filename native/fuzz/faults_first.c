@@ -4,34 +4,8 @@
 #include "faults.h"
 #include "lent.h"
 
-/* Roads with more plans than this keep the right one. */
-enum { MOST_PLANS = 1300 };
-
 /* True if a plan is to be written in place of the one held, which comes before it. */
 typedef int (*prefers)(const uint16_t *plan, const uint16_t *held, size_t r);
-
-static int has_few_plans(struct counts counts)
-{
-    size_t plans = 1;
-    size_t i;
-
-    for (i = 0; i < counts.r && plans <= MOST_PLANS; i++)
-        plans *= counts.s;
-    return plans <= MOST_PLANS;
-}
-
-/* The next plan in order; false behind the last. */
-static int advance(uint16_t *plan, struct counts counts)
-{
-    size_t i;
-
-    for (i = counts.r; i > 0; i--) {
-        if (++plan[i - 1] < counts.s)
-            return 1;
-        plan[i - 1] = 0;
-    }
-    return 0;
-}
 
 static int costs_as_much(const struct plan *call, const uint16_t *plan, size_t r)
 {
@@ -42,7 +16,7 @@ static int costs_as_much(const struct plan *call, const uint16_t *plan, size_t r
     return check.number == 0 && answer[1] == call->answer[1];
 }
 
-/* Writes the preferred one of the cheapest plans. */
+/* Writes the preferred one of the cheapest plans, if the road has few. */
 static void plan_preferring(struct plan *call, prefers prefers)
 {
     struct counts counts = counts_of(call->sheet);
@@ -52,7 +26,7 @@ static void plan_preferring(struct plan *call, prefers prefers)
     if (call->number != 0 || !has_few_plans(counts))
         return;
     memcpy(plan, call->output, counts.r * sizeof *plan);
-    while (advance(plan, counts))
+    while (next_plan(plan, counts))
         if (prefers(plan, call->output, counts.r) && costs_as_much(call, plan, counts.r))
             memcpy(call->output, plan, counts.r * sizeof *plan);
 }

@@ -11,7 +11,7 @@
 #include "layout.h"
 #include "lent.h"
 
-enum { NO_SUCH_FAULT = 3 };
+enum { NO_SUCH_FAULT = 3, FEW_PLANS = 1300 };
 
 uint64_t __real_gz_read(const uint8_t *, size_t, uint64_t *);
 uint64_t __real_gz_service(const uint8_t *, size_t, size_t, uint64_t *);
@@ -119,12 +119,35 @@ void set_cabinets(struct sheet sheet, size_t first, size_t field, unsigned word)
         put_word(other_sheet, place_of(sheet.bytes, CABINETS, c, field), word);
 }
 
+int has_few_plans(struct counts counts)
+{
+    size_t plans = 1;
+    size_t i;
+
+    for (i = 0; i < counts.r && plans <= FEW_PLANS; i++)
+        plans *= counts.s;
+    return plans <= FEW_PLANS;
+}
+
+int next_plan(uint16_t *plan, struct counts counts)
+{
+    size_t i;
+
+    for (i = counts.r; i > 0; i--) {
+        if (++plan[i - 1] < counts.s)
+            return 1;
+        plan[i - 1] = 0;
+    }
+    return 0;
+}
+
 /* The fault of this number, counted through all lists. */
 static const struct fault *find(unsigned long number)
 {
     static const struct fault none = {.what = "none"};
     const struct fault *lists[] = {sheet_faults, fourth_faults, reader_faults, checker_faults,
-                                   planner_faults, first_faults, copy_faults, tidy_faults};
+                                   framing_faults, planner_faults, first_faults, copy_faults,
+                                   tidy_faults};
     const struct fault *fault;
     size_t i;
 

@@ -29,7 +29,7 @@ mkdir -p "$build"
 compile fuzz
 compile fuzz-faulty "${wrapped[@]/#/-Wl,--wrap=gz_}" \
     native/fuzz/{faulty,faults_sheet,faults_fourth,faults_reader,faults_checker}.c \
-    native/fuzz/{faults_planner,faults_first,faults_copy,faults_tidy}.c
+    native/fuzz/{faults_framing,faults_planner,faults_first,faults_copy,faults_tidy}.c
 
 "$build/fuzz"
 
