@@ -252,6 +252,16 @@ static void plan_once_a_pair(struct plan *call)
     plan_by(call, &once_a_pair);
 }
 
+static void plan_once_a_direction(struct plan *call)
+{
+    plan_by(call, &once_a_direction);
+}
+
+static void plan_up_only(struct plan *call)
+{
+    plan_by(call, &up_only);
+}
+
 const struct fault framing_faults[] = {
     {.what = "gz_check counts no framing", .check = check_unframed},
     {.what = "gz_check counts 1 for framing", .check = check_less},
@@ -266,6 +276,8 @@ const struct fault framing_faults[] = {
     {.what = "gz_plan counts framing twice", .plan = plan_doubled},
     {.what = "gz_plan counts framing for a demand of 0 too", .plan = plan_idle_too},
     {.what = "gz_plan counts framing once for each pair of ends", .plan = plan_once_a_pair},
+    {.what = "gz_plan counts framing once for each direction", .plan = plan_once_a_direction},
+    {.what = "gz_plan counts framing on the way up only", .plan = plan_up_only},
     {.what = "gz_plan prices framing", .plan = plan_priced},
     {.what = "gz_plan chooses as if framing were priced", .plan = plan_chooses_priced},
     {.what = "gz_check and gz_plan count no framing", .check = check_unframed,

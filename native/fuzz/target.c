@@ -114,6 +114,8 @@ static void require_written(const struct run *run, const struct outcome *outcome
             "The plan is valid when no service is on a cabinet that it is barred from");
     checking = check_plan(run, &outcome->reading, outcome->planning.plan,
                           (size_t)outcome->reading.counts[1]);
+    require(checking.number != 16,
+            "The plan is valid when .. no direction of a link has a load above its capacity");
     require(checking.number == 0,
             "On success the first r hold the cabinet of each service (gz_check refuses them)");
     require(checking.answer[1] == outcome->planning.answer[1],
