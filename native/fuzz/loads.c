@@ -7,7 +7,7 @@
 
 /* The fields of a cabinet. */
 enum { PARENT = 0, PRICE = 2 };
-static const size_t capacity_field[DIRECTIONS] = {3, 5};
+const size_t capacity_field[DIRECTIONS] = {3, 5};
 static const size_t price_field[DIRECTIONS] = {4, 6};
 
 /* Parents have smaller numbers: while the ends differ, the larger is not above the other one. */
@@ -52,6 +52,11 @@ void reckon_loads(struct loads *loads, const uint8_t *sheet, const uint16_t *pla
     }
 }
 
+uint64_t load_with(const struct load *load, uint64_t framing)
+{
+    return load->demand + framing * load->framed;
+}
+
 uint64_t capacity_of(const uint8_t *sheet, size_t cabinet, int direction)
 {
     return field_at(sheet, CABINETS, cabinet, capacity_field[direction]);
@@ -68,12 +73,9 @@ int has_overfull_line(const uint8_t *sheet, const struct loads *loads, uint64_t 
     int direction;
 
     for (c = 1; c < count_of(sheet, CABINETS); c++)
-        for (direction = UP; direction < DIRECTIONS; direction++) {
-            const struct load *load = &loads->of[c][direction];
-
-            if (load->demand + framing * load->framed > capacity_of(sheet, c, direction))
+        for (direction = UP; direction < DIRECTIONS; direction++)
+            if (load_with(&loads->of[c][direction], framing) > capacity_of(sheet, c, direction))
                 return 1;
-        }
     return 0;
 }
 

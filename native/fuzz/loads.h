@@ -14,6 +14,9 @@ enum { FRAMING = 2 };
 /* The directions of the link between a cabinet and its parent. */
 enum { UP, DOWN, DIRECTIONS };
 
+/* The field of a cabinet that tells the capacity of each direction. */
+extern const size_t capacity_field[DIRECTIONS];
+
 /* A direction that a stream runs along, by the cabinet at the lower end of its link. */
 struct step {
     size_t cabinet;
@@ -38,11 +41,14 @@ size_t walk(const uint8_t *sheet, const uint16_t *plan, size_t stream,
 
 void reckon_loads(struct loads *loads, const uint8_t *sheet, const uint16_t *plan);
 
+/* The load, with so much framing for each stream of demand above 0. */
+uint64_t load_with(const struct load *load, uint64_t framing);
+
 uint64_t capacity_of(const uint8_t *sheet, size_t cabinet, int direction);
 
 uint64_t price_of(const uint8_t *sheet, size_t cabinet, int direction);
 
-/* True if a direction has a load above its capacity, with so much framing for each stream. */
+/* True if a direction has a load above its capacity, with so much framing. */
 int has_overfull_line(const uint8_t *sheet, const struct loads *loads, uint64_t framing);
 
 /* True if a stream of demand 0 runs along a direction of capacity 0. */

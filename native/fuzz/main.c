@@ -72,22 +72,37 @@ static size_t draw_bytes(struct random *random, uint8_t *bytes)
     return length;
 }
 
+/* The words of the tail, which repeats; zeros if there is none. */
+static void draw_words(struct random *random, unsigned tail, uint16_t words[MOST_WORDS])
+{
+    unsigned i;
+
+    for (i = 0; i < MOST_WORDS; i++)
+        if (i < tail)
+            words[i] = (uint16_t)random_next(random);
+        else
+            words[i] = tail > 0 ? words[i - tail] : 0;
+}
+
 /* Bytes, an example, a road, or one of the last two damaged. Gives the size of the input. */
 static size_t draw_input(struct random *random, uint8_t *bytes)
 {
     unsigned kind = random_below(random, 16);
     uint8_t *sheet = bytes + CHOICES;
+    uint16_t words[MOST_WORDS];
     size_t length;
     unsigned i;
 
     if (kind == 0)
         return draw_bytes(random, bytes);
     draw_choices(random, bytes);
-    length = random_once_in(random, 16) ? example_sheet(random, sheet) : draw_sheet(random, sheet);
+    draw_words(random, bytes[TAIL], words);
+    length = random_once_in(random, 16) ? example_sheet(random, sheet)
+                                        : draw_sheet(random, sheet, words);
     if (kind < 8)
         length = damage_sheet(random, sheet, length);
     for (i = 0; i < bytes[TAIL]; i++)
-        put_word(sheet, length + 2 * i, (unsigned)random_next(random) % 65536);
+        put_word(sheet, length + 2 * i, words[i]);
     return CHOICES + length + 2 * (size_t)bytes[TAIL];
 }
 

@@ -13,7 +13,7 @@ compile() {
     shift
     cc -std=c99 -Wall -Wextra -Werror -O1 -g \
         -fsanitize=address,undefined -fno-sanitize-recover=all -Inative/include "$@" \
-        native/fuzz/{main,sheets,bars,damage,damage_fourth,random}.c \
+        native/fuzz/{main,sheets,bars,links,damage,damage_fourth,random}.c \
         native/fuzz/{target,rules,layout,reader,checker,loads,planner,rivals,tidy,copy}.c \
         native/fuzz/{refusals,lent,input,arena,require}.c \
         target/staticlib/libgazrieksne.a -o "$build/$name"

@@ -6,9 +6,11 @@
 #include "bars.h"
 #include "input.h"
 #include "layout.h"
+#include "links.h"
 
 enum { MOST_AMOUNT = 10000, NO_PARENT = 65535 };
 enum { CAPACITY = 1, UP_CAPACITY = 3, DOWN_CAPACITY = 5, CABINET_FIELDS = 7 };
+enum { MOST_ROOM = 7 };
 
 /* The numbers of records, and what amounts and barred pairs are like. */
 struct road {
@@ -16,6 +18,7 @@ struct road {
     unsigned most;  /* amounts are at most this */
     unsigned room;  /* about how many demands a cabinet's capacity is made for */
     unsigned width; /* the same for a link */
+    int fitted;     /* links are made for a plan instead, and cabinets have room */
     unsigned shape; /* of the tree */
     struct bars bars;
 };
@@ -59,7 +62,8 @@ static void draw_road(struct random *random, struct road *road)
         draw_longest(random, road);
     road->count[BARRED] = road->bars.pairs;
     road->most = most[random_below(random, 8)];
-    road->room = random_below(random, 8);
+    road->fitted = random_once_in(random, 2);
+    road->room = road->fitted ? MOST_ROOM : random_below(random, MOST_ROOM + 1);
     road->width = random_below(random, 8);
     road->shape = random_below(random, 4);
 }
@@ -198,7 +202,7 @@ static void write_header(const struct road *road, uint8_t *bytes, size_t length,
         put_word(bytes, offset[BARRED], road->count[BARRED]);
 }
 
-size_t draw_sheet(struct random *random, uint8_t *bytes)
+size_t draw_sheet(struct random *random, uint8_t *bytes, const uint16_t *words)
 {
     struct road road;
     size_t offset[BLOCKS];
@@ -209,6 +213,8 @@ size_t draw_sheet(struct random *random, uint8_t *bytes)
     memset(bytes, random_once_in(random, 2) ? 0 : 255, length);
     write_header(&road, bytes, length, offset);
     write_records(random, &road, bytes);
+    if (road.fitted)
+        fit_links(random, bytes, words);
     return length;
 }
 

@@ -9,8 +9,9 @@
 
 enum { MOST_ROAD_SHEET = 12000 };
 
-/* Writes a sheet of at most MOST_ROAD_SHEET bytes and gives its length. */
-size_t draw_sheet(struct random *random, uint8_t *bytes);
+/* Writes a sheet of at most MOST_ROAD_SHEET bytes and gives its length. In every other sheet the
+ * links are made for the plan that the words say (see links.h). */
+size_t draw_sheet(struct random *random, uint8_t *bytes, const uint16_t *words);
 
 /* Writes one of the two sheets in examples/ and gives its length. */
 size_t example_sheet(struct random *random, uint8_t *bytes);
