@@ -18,8 +18,8 @@ enum { GATE_INPUTS = 100000, GATE_SEED = 1, MOST_WORDS = 12 };
 static const char usage[] =
     "usage: fuzz [INPUTS [SEED]]\n"
     "Makes INPUTS inputs (default %d) from SEED (default %d), runs the target on each, and prints\n"
-    "how often each answer was met. From %d inputs on, an answer that a call may give and never\n"
-    "gave is a failure too, and so is a kind of plans told below the answers that was never met.\n";
+    "how often each answer and some kinds of plans were met. From %d inputs on, it is a failure\n"
+    "too if a call never gave an answer that it may give, or if no plan of such a kind was met.\n";
 
 /* The input under way, for the line that a failure ends with. */
 static char under_way[64];
