@@ -1,9 +1,11 @@
-// Prints what the check answers on the measured roads, on sums above 65,535, and on long roads: a chain and a star of 200 cabinets with 100 streams.
+// Prints what the check answers on the measured roads, on sums above 65,535, on long roads, a chain and a star of 200 cabinets with 100 streams, with
+// barred pairs, and where framing fills a link.
 ghost use mathlib.Core.Path.{_≡_};
 ghost use Prim.Native.Nat.{_+_, _<_};
 ghost use lib.ListN.{length};
 
 mod bars; // bars.rt: road M with barred pairs
+mod framing; // framing.rt: road M with streams whose framing fills a link
 
 use checker::Checked;
 use sheet::Refusal;
@@ -45,7 +47,7 @@ const ROAD_M: [u16; 34] = [
     3,
 ];
 
-// Road M with two streams of one pair: together they fill the up capacity of cabinet 1.
+// Road M with two streams of one pair: together, with their framing, they fill the up capacity of cabinet 1.
 const PAIR_FITS: [u16; 37] = [
     2,
     3,
@@ -80,10 +82,10 @@ const PAIR_FITS: [u16; 37] = [
     1,
     0,
     1,
-    3,
+    1,
     0,
     1,
-    3,
+    1,
 ];
 
 // The same with one unit too much.
@@ -121,10 +123,10 @@ const PAIR_TOO_MUCH: [u16; 37] = [
     1,
     0,
     1,
-    3,
+    1,
     0,
     1,
-    4,
+    2,
 ];
 
 // Case Z: the root has capacity 0, and service 2 has demand 0.
@@ -425,10 +427,11 @@ fn long_road(star: bool, narrow: usize, up_capacity: usize) {
     cut(&bytes, 3436, &SPREAD);
 }
 
-// What the plan puts on the up direction of cabinet 100 of the chain, and of cabinet 5 of the star.
-const CHAIN_LOAD: usize = 2732;
+// What the plan puts on the up direction of cabinet 100 of the chain, 27 streams and their framing.
+const CHAIN_LOAD: usize = 2786;
 
-const STAR_LOAD: usize = 920;
+// What it puts on the up direction of cabinet 5 of the star, 10 streams and their framing.
+const STAR_LOAD: usize = 940;
 
 fn main() {
     road_m();
@@ -443,4 +446,5 @@ fn main() {
     long_road(true, 5, STAR_LOAD);
     long_road(true, 5, STAR_LOAD - 1);
     bars::run();
+    framing::run();
 }
