@@ -23,7 +23,8 @@ module _ (I : Instance) where
   abbrev pub is-under : ℕ → ℕ → Bool
   is-under c d = under lower-parent c d
 
-  -- what leaves the services under c, upwards, and what enters them, downwards; nothing where there is no link
+  -- what the streams that leave the services under c take of the link upwards, and what those that enter them take downwards, framing included;
+  -- nothing where there is no link
   unfoldable pub loads : (ℕ → ℕ) → ℕ → Loads
   loads π c = record {
     up = only (has-link c) (leaving I (weight I) (λ i. is-under c (π i)));
