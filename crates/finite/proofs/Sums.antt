@@ -100,6 +100,13 @@ sum-more n m f l = le-ind (λ (m : ℕ). ((d : ℕ) → n ≤ d → d < m → f 
     (λ h. refl)
     (λ m k ih h. omega (arith, ih (λ d i j. h d i (omega arith)), h m k (omega arith))) m l
 
+-- the first places of a sum, and those behind them
+pub sum-parts : (n m : ℕ) (f : ℕ → ℕ) → sum-below (n + m) f ≡ sum-below n f + sum-below m (λ d. f (n + d))
+unfolding sum-below
+sum-parts n zero f = ap (λ (k : ℕ). sum-below k f) (add-zero n) ∙ sym (add-zero (sum-below n f))
+sum-parts n (suc m) f =
+    ap (λ (k : ℕ). sum-below k f) (let q : n + suc m ≡ suc (n + m) = omega arith in q) ∙ omega (arith, sum-parts n m f)
+
 -- what passes two tests passes each
 pub only-both-l : (s t : Bool) (n : ℕ) → only (s && t) n ≤ only s n
 unfolding only

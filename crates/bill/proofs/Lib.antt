@@ -1,0 +1,5 @@
+-- Laws of bills.
+pub mod Put
+pub mod Figures
+pub mod Begun
+pub mod Answers

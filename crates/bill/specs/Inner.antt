@@ -1,0 +1,3 @@
+-- What only private functions and proofs cite.
+pub mod Put
+pub mod Billable
