@@ -2,9 +2,9 @@
  *
  * A planning sheet describes services with demands, cabinets that form a tree and have room for
  * services, streams between services, and which services are barred from which cabinets. The
- * library reads sheets, checks plans, finds the first of the cheapest plans, and writes tidy copies
- * of sheets. It keeps no state, allocates nothing, and calls nothing of yours; any number of threads
- * may call it at once, each with memory of its own.
+ * library reads sheets, checks plans, finds the first of the cheapest plans, makes the carrier's
+ * bill of a plan, and writes tidy copies of sheets. It keeps no state, allocates nothing, and calls
+ * nothing of yours; any number of threads may call it at once, each with memory of its own.
  *
  * The sheet
  * ---------
@@ -43,8 +43,8 @@
  * place of them is written on every call, whatever they held, with 0 where there is nothing to
  * tell. Their first place holds the group of the refusal, that is, who can have caused it. If
  * several refusals apply, the one that is first in this order is given: 1 to 9, 18 and 19 for every
- * call that takes a sheet, then 10, 11 and 12 for gz_plan, 13, 14, 20, 15 and 16 for gz_check, and
- * 21 for gz_tidy.
+ * call that takes a sheet, then 10, 11 and 12 for gz_plan, 13, 14, 20, 15 and 16 for gz_check, the
+ * same five and then 22 for gz_bill, and 21 for gz_tidy.
  *
  *   group 0: no refusal
  *   group 1: whoever wrote the sheet
@@ -66,6 +66,8 @@
  *     10  the planner's output is shorter than r places
  *     11  a table is shorter than s * 2^r entries
  *     21  the output is shorter than the sheet that is to be written there
+ *     22  a price or the tax rate of the tariff is outside its limits, or there are too few places
+ *         for the lines of the bill
  *   group 3: the road
  *     12  no valid plan exists
  *   group 4: whoever wrote the plan
@@ -142,6 +144,28 @@ uint64_t gz_check(const uint8_t *sheet, size_t sheet_len, const uint16_t *plan, 
 uint64_t gz_plan(const uint8_t *sheet, size_t sheet_len, uint16_t *output, size_t output_len,
                  uint64_t *costs, size_t costs_len, uint16_t *choices, size_t choices_len,
                  uint64_t answer[3]);
+
+/* Makes the carrier's monthly bill of a plan, in cents. Returns 0, else 1 to 9, 13 to 16, 18 to 20
+ * or 22.
+ *   plan, plan_len    as for gz_check
+ *   block_price       cents for each started block of 100 units of load, 0 to GZ_MAX_PRICE
+ *   slot_price        cents for each unit of a service's demand, 0 to GZ_MAX_PRICE
+ *   tax_rate          thousandths of the net, 0 to GZ_MAX_RATE
+ *   lines, lines_len  places for the lines, 2 * (s - 1) + r or more. On success first come the link
+ *                     directions, for each cabinet from 1 the one up and then the one down: the
+ *                     blocks that the load of the direction starts, framing included, at the block
+ *                     price. Then come the services, each with its demand at the slot price. Other
+ *                     places stay as they are, and in a refusal all do.
+ *   answer            group, net, tax, total; the last three are 0 in a refusal. The net is the sum
+ *                     of the lines, the tax is net * tax_rate / 1000 to the nearest cent, a half
+ *                     upward, and the total is net plus tax.
+ * GZ_MOST_LINES places suffice for any sheet. */
+#define GZ_MAX_PRICE 10000
+#define GZ_MAX_RATE 1000
+#define GZ_MOST_LINES 408
+uint64_t gz_bill(const uint8_t *sheet, size_t sheet_len, const uint16_t *plan, size_t plan_len,
+                 uint64_t block_price, uint64_t slot_price, uint64_t tax_rate, uint64_t *lines,
+                 size_t lines_len, uint64_t answer[4]);
 
 /* Writes the tidy copy of a sheet: header, services, cabinets, streams and barred pairs, in this
  * order and without gaps, each block's records in their order; but the pairs stand in rising order

@@ -2,3 +2,4 @@
 pub mod Reads
 pub mod Plans
 pub mod Copies
+pub mod Bills

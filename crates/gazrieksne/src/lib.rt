@@ -1,4 +1,5 @@
 // The C entry points: thin functions over the library's calls. native/include/gazrieksne.h documents them.
+mod bills; // bills.rt: gz_bill
 mod checks; // checks.rt: gz_check
 mod copies; // copies.rt: gz_tidy
 mod plans; // plans.rt: gz_plan, gz_bound
