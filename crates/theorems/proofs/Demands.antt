@@ -7,7 +7,9 @@
 --                                                                               crates/planner/src/lib.rt
 --   `tidy-answer`, `output-after`           what `tidy::tidy` answers, and what its output holds after it
 --                                                                               crates/tidy/src/lib.rt
--- and the C entry points `gz_read`, `gz_check`, `gz_plan` and `gz_tidy` have the same clauses in crates/gazrieksne/src. What the program prints is
+--   `billed`, `lines-after`                 what `bill::bill` answers, and what the places for its lines hold after it
+--                                                                               crates/bill/src/lib.rt
+-- and the C entry points `gz_read`, `gz_check`, `gz_plan`, `gz_tidy` and `gz_bill` have the same clauses in crates/gazrieksne/src. What the program prints is
 -- `printed` in crates/report/specs/Text.antt, by the contract of `report::respond`.
 use Prim.Native.Nat.{ℕ, _+_, _-_, _*_, _^_, _≤_, _<_}
 use mathlib.Core.Logic.{_↔_, _⊎_, inl, inr}
@@ -34,7 +36,7 @@ use Rattle.sheet.proofs.Order.{given-first, reading-first, reading-order}
 use Rattle.subsets.specs.Order.{NotAfter}
 use Rattle.embedding.specs.Definition1.{member, Feasible, cost}
 use Rattle.embedding.specs.Limits.{Limits}
-use Rattle.embedding.specs.Road.{road}
+use Rattle.embedding.specs.Road.{up, down, road}
 use Rattle.embedding.specs.Plan.{place, routes, carried, cheapest}
 use Rattle.embedding.specs.First.{first-plan, places}
 use Rattle.embedding.specs.Splits.{weighed}
@@ -51,6 +53,15 @@ use Rattle.planner.specs.Lent.{table-after, OutputAfter}
 use Rattle.planner.specs.declared.Planned.{Planned}
 use Rattle.planner.specs.declared.Planned.the-variants.{Plan, Refused}
 use Rattle.planner.proofs.Order.{plan-first, plan-order}
+use Rattle.bill.specs.Tariff.{within-limits}
+use Rattle.bill.specs.Lines.{started, tax-on, line-count, line, net, tax, total}
+use Rattle.bill.specs.Answers as bill
+use Rattle.bill.specs.Answers.{billed, lines-after}
+use Rattle.bill.specs.declared.tariff.Tariff.{Tariff}
+use Rattle.bill.specs.declared.Billed.{Billed}
+use Rattle.bill.specs.declared.Billed.the-variants as bills
+use Rattle.bill.proofs.Figures.{started-covers, started-least, tax-high, tax-low}
+use Rattle.bill.proofs.Answers.{made-iff, bill-first, bill-order}
 use Rattle.tidy.specs.Copy.{length-with, tidied}
 use Rattle.tidy.specs.Answers as tidy
 use Rattle.tidy.specs.Answers.{tidy-answer, output-after}
@@ -58,9 +69,10 @@ use Rattle.tidy.specs.Agree.{Agree}
 use Rattle.tidy.specs.declared.Written as copies
 use Rattle.tidy.specs.declared.Written.the-variants as sheets
 use Rattle.tidy.proofs.Answers.{tidy-first, tidy-order, room-iff, copy-longest}
+use Rattle.theorems.proofs.Billing as billing
 use Rattle.theorems.proofs.Copying as copying
 use Rattle.theorems.proofs.Planning as planning
-use Rattle.theorems.specs.Promised.{Given, Maps, NoneCheaper, Best, Left, SheetLeft}
+use Rattle.theorems.specs.Promised.{Given, Maps, NoneCheaper, Best, Left, SheetLeft, LinesLeft}
 
 -- ---- Demand 1
 
@@ -286,3 +298,87 @@ pub framing-counted :
     ≡ sum-below (instance bytes .q) (λ j. only (member e (routes (instance bytes) π j)) (instance bytes .load j))
     + 2 * sum-below (instance bytes .q) (λ j. only (member e (routes (instance bytes) π j) && ltb 0 (instance bytes .load j)) 1)
 framing-counted bytes h reads = framed-edge (instance bytes) (well-formed bytes h reads)
+
+-- ---- The carrier's bill
+
+-- Any bytes, any plan and any tariff, with any places lent, get net, tax and total or one refusal, from 1 to 9, from 13 to 16, from 18 to 20, or 22, in
+-- the group of its number. (`bill::bill`, clause `answer`.)
+pub bill-answers :
+    (bytes plan : List ℕ) (t : Tariff) (lines : ℕ) →
+    ((m : ℕ) × (x : ℕ) × (k : ℕ) × (billed bytes plan t lines ≡ bills.Bill m x k))
+    ⊎ ((f : Refusal) × (billed bytes plan t lines ≡ bills.Refused f) × Given bill.bill-numbers f)
+bill-answers = billing.either
+
+-- Its rules stand in the order of giving, 22 last, and the number given is the first in that order of which a rule applies.
+pub bill-gives :
+    (bytes plan : List ℕ) (t : Tariff) (lines : ℕ) →
+    (in-order giving (bill.all-rules bytes plan t lines) ≡ true)
+    × (bill.number (billed bytes plan t lines) ≡ first-of giving (bill.all-rules bytes plan t lines))
+bill-gives bytes plan t lines =
+    let o = bill-order bytes plan t lines in
+    (o, bill-first bytes plan t lines ∙ given-first (bill.all-rules bytes plan t lines) o)
+
+-- Net, tax and total are answered exactly when the check accepts the plan, the tariff is within its limits and there are places for all lines; and then
+-- they are those of the definitions.
+pub bill-exactly-when :
+    (bytes plan : List ℕ) (t : Tariff) (lines : ℕ) (m x k : ℕ) →
+    (billed bytes plan t lines ≡ bills.Bill m x k)
+    ↔ (((c : ℕ) × (checked bytes plan ≡ answers.Accepted c))
+    × (within-limits t ≡ true)
+    × (line-count (instance bytes) ≤ lines)
+    × (m ≡ net (instance bytes) (place plan) t)
+    × (x ≡ tax (instance bytes) (place plan) t)
+    × (k ≡ total (instance bytes) (place plan) t))
+bill-exactly-when = made-iff
+
+-- With a bill its lines stand at the front of the places lent, and all behind them stays; after a refusal all stays. (`bill::bill`, clauses `answer` and
+-- `lines`.)
+pub bill-memory :
+    (bytes plan lines lines' : List ℕ) (t : Tariff) (a : Billed) →
+    a ≡ billed bytes plan t (length lines) →
+    lines' ≡ lines-after (instance bytes) (place plan) t a lines →
+    LinesLeft (instance bytes) (place plan) t a lines lines'
+bill-memory = billing.left
+
+-- The lines: for each cabinet c from 1 the direction up and then the one down, each with the blocks that its load starts, at the block price; then the
+-- services, each with its demand, at the slot price. The load is the one that the check tests, by `framing-counted`.
+pub bill-lines :
+    (I : Instance) (π : ℕ → ℕ) (t : Tariff) →
+    ((c : ℕ) → 0 < c → c < I .s →
+    (line I π t (2 * (c - 1)) ≡ started (carried I π (up c)) * t .«block_price»)
+    × (line I π t (2 * (c - 1) + 1) ≡ started (carried I π (down c)) * t .«block_price»))
+    × ((i : ℕ) → i < I .r → line I π t (2 * (I .s - 1) + i) ≡ I .demand i * t .«slot_price»)
+bill-lines I π t = (billing.link-lines I π t, billing.service-lines I π t)
+
+-- The blocks started are the least number of hundreds that covers the load; and the tax is net × rate / 1,000 to the nearest cent, a half upward: it is
+-- at most a half above that, and less than a half below it.
+pub bill-rounds :
+    ((load : ℕ) → (load ≤ 100 * started load) × ((count : ℕ) → load ≤ 100 * count → started load ≤ count))
+    × ((m rate : ℕ) → (1000 * tax-on m rate ≤ m * rate + 500) × (m * rate < 1000 * tax-on m rate + 500))
+bill-rounds = (λ load. (started-covers load, started-least load), λ m rate. (tax-high m rate, tax-low m rate))
+
+-- The lines that stand in the places lent sum to the net; the tax is that on the net; the total is net plus tax. (`bill::bill`, clauses `answer` and
+-- `lines`.)
+pub bill-sums :
+    (bytes plan lines lines' : List ℕ) (t : Tariff) (m x k : ℕ) →
+    billed bytes plan t (length lines) ≡ bills.Bill m x k →
+    lines' ≡ lines-after (instance bytes) (place plan) t (bills.Bill m x k) lines →
+    (sum-below (line-count (instance bytes)) (λ n. getD lines' n 0) ≡ m) × (x ≡ tax-on m (t .«tax_rate»)) × (k ≡ m + x)
+bill-sums = billing.sums
+
+-- No figure of a bill passes 64 bits: no line is above the net, the net is below 2^31 and the total below 2^32; nor does net × rate with the half that
+-- is added to round it.
+pub bill-fits :
+    (bytes plan : List ℕ) (t : Tariff) (lines m x k : ℕ) →
+    billed bytes plan t lines ≡ bills.Bill m x k →
+    ((n : ℕ) → n < line-count (instance bytes) → line (instance bytes) (place plan) t n ≤ m)
+    × (m < 2 ^ 31)
+    × (m * t .«tax_rate» + 500 < 2 ^ 64)
+    × (k < 2 ^ 32)
+bill-fits = billing.low
+
+-- A sheet and its tidy copy get the same bills.
+pub copy-bills-alike :
+    (bytes : List ℕ) (h : Sheet) → reading bytes ≡ readings.Accepted h →
+    (plan : List ℕ) (t : Tariff) (lines : ℕ) → billed (tidied (instance bytes)) plan t lines ≡ billed bytes plan t lines
+copy-bills-alike = billing.same-billed

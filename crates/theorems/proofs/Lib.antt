@@ -1,5 +1,6 @@
 -- The page to open first is Demands; Cases has the worked cases.
 mod Planning
 mod Copying
+mod Billing
 pub mod Demands
 pub mod Cases

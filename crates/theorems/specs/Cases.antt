@@ -9,11 +9,16 @@ use Rattle.finite.specs.Below.{_⇒_, all-below}
 use Rattle.sheet.specs.Refusals.{refusal}
 use Rattle.sheet.specs.Reading.{reading, number}
 use Rattle.sheet.specs.Instance.{Instance, instance}
-use Rattle.embedding.specs.Plan.{digit, valid, plan-cost}
+use Rattle.embedding.specs.Plan.{place, digit, valid, plan-cost}
 use Rattle.embedding.specs.First.{first-plan, places}
 use Rattle.checker.specs.Check.{checked}
 use Rattle.checker.specs.declared.Checked.{Checked}
 use Rattle.checker.specs.declared.Checked.the-variants.{Accepted, Refused}
+use Rattle.bill.specs.Lines.{line-count, line}
+use Rattle.bill.specs.Answers.{billed}
+use Rattle.bill.specs.declared.tariff.Tariff.{Tariff}
+use Rattle.bill.specs.declared.Billed.{Billed}
+use Rattle.bill.specs.declared.Billed.the-variants as bill
 use Rattle.planner.specs.Answers as planner
 use Rattle.planner.specs.Answers.{entries, cost, planned}
 use Rattle.planner.specs.declared.Planned.{Planned}
@@ -39,6 +44,10 @@ pub data Case : Type 0 where
   writes : List ℕ → List ℕ → Case
   -- the call that tidies, of bytes, with an output that just suffices: this is the copy
   tidies : List ℕ → List ℕ → Case
+  -- the call that makes a bill, of bytes, a plan and a tariff, with places for so many lines
+  bills : List ℕ → List ℕ → Tariff → ℕ → Billed → Case
+  -- the lines of that bill
+  lines : List ℕ → List ℕ → Tariff → List ℕ → Case
 
 -- the planner's answer where the output has r places and each table s × 2^r entries
 abbrev pub answer-to : List ℕ → Planned
@@ -58,6 +67,12 @@ Holds (plan-costs bytes k) = cost (answer-to bytes) ≡ k
 Holds (puts bytes k i c) = all-put (instance bytes) k i c ≡ true
 Holds (writes bytes written) = (planner.number (answer-to bytes) ≡ 0) × (places (instance bytes .r) (first-plan (instance bytes)) ≡ written)
 Holds (tidies bytes copy) = (tidy-answer bytes (length copy) ≡ Bytes (length copy)) × (tidied (instance bytes) ≡ copy)
+Holds (bills bytes written t n answer) = billed bytes written t n ≡ answer
+Holds (lines bytes written t expected) = places (line-count (instance bytes)) (line (instance bytes) (place written) t) ≡ expected
+
+-- a tariff of this block price, slot price and tax rate
+abbrev pub tariff : ℕ → ℕ → ℕ → Tariff
+tariff block slot rate = record { «block_price» = block; «slot_price» = slot; «tax_rate» = rate }
 
 -- every case of a table holds
 abbrev pub AllHold : List Case → Type 0
@@ -206,4 +221,18 @@ cases =
     ∷ tidies (m-with 68 (2 ∷ 1 ∷ 0 ∷ 0 ∷ 2 ∷ [])) (m-with 68 (2 ∷ 0 ∷ 2 ∷ 1 ∷ 0 ∷ []))
     ∷ tidies both-ways both-ways
     ∷ tidies lone-odd lone
+    -- bills of M: a tax that ends in a half; all at the limits; a stream of 98 and one of 99, whose framing takes them to one block and past it
+    ∷ bills road-m (0 ∷ 1 ∷ []) (tariff 250 30 50) 6 (bill.Bill 370 19 389)
+    ∷ lines road-m (0 ∷ 1 ∷ []) (tariff 250 30 50) (0 ∷ 250 ∷ 0 ∷ 0 ∷ 60 ∷ 60 ∷ [])
+    ∷ bills road-m (1 ∷ 2 ∷ []) (tariff 10000 10000 1000) 9 (bill.Bill 60000 60000 120000)
+    ∷ lines road-m (1 ∷ 2 ∷ []) (tariff 10000 10000 1000) (10000 ∷ 0 ∷ 0 ∷ 10000 ∷ 20000 ∷ 20000 ∷ [])
+    ∷ bills (m-carrying 100 (0 ∷ 1 ∷ 98 ∷ [])) (1 ∷ 0 ∷ []) (tariff 7 0 500) 6 (bill.Bill 7 4 11)
+    ∷ lines (m-carrying 101 (0 ∷ 1 ∷ 99 ∷ [])) (1 ∷ 0 ∷ []) (tariff 7 0 500) (14 ∷ 0 ∷ 0 ∷ 0 ∷ 0 ∷ 0 ∷ [])
+    -- each part of a tariff above its limit; a line too few; the check's refusal, and the reader's, before that
+    ∷ bills road-m (0 ∷ 1 ∷ []) (tariff 10001 0 0) 6 (bill.Refused (refusal 22))
+    ∷ bills road-m (0 ∷ 1 ∷ []) (tariff 0 10001 0) 6 (bill.Refused (refusal 22))
+    ∷ bills road-m (0 ∷ 1 ∷ []) (tariff 0 0 1001) 6 (bill.Refused (refusal 22))
+    ∷ bills road-m (0 ∷ 1 ∷ []) (tariff 250 30 50) 5 (bill.Refused (refusal 22))
+    ∷ bills road-m (2 ∷ 0 ∷ []) (tariff 10001 0 0) 0 (bill.Refused (refusal 16))
+    ∷ bills (m-with 68 []) (0 ∷ 1 ∷ []) (tariff 10001 0 0) 0 (bill.Refused (refusal 18))
     ∷ []

@@ -16,6 +16,10 @@ use Rattle.planner.specs.Answers.{entries}
 use Rattle.planner.specs.Lent.{used}
 use Rattle.planner.specs.declared.Planned.{Planned}
 use Rattle.planner.specs.declared.Planned.the-variants.{Plan, Refused}
+use Rattle.bill.specs.Lines.{line-count, line}
+use Rattle.bill.specs.declared.tariff.Tariff.{Tariff}
+use Rattle.bill.specs.declared.Billed.{Billed}
+use Rattle.bill.specs.declared.Billed.the-variants as bills
 use Rattle.tidy.specs.declared.Written as tidy
 use Rattle.tidy.specs.declared.Written.the-variants as sheets
 
@@ -66,3 +70,9 @@ pub record Left (I : Instance) (a : Planned) (output costs choices output' costs
 pub record SheetLeft (sheet : List ℕ) (a : tidy.Written) (output output' : List ℕ) : Type 0 where
   pub written : (n : ℕ) → a ≡ sheets.Bytes n → (n ≡ length sheet) × (take n output' ≡ sheet) × Written n output output'
   pub refused : (f : Refusal) → a ≡ sheets.Refused f → output' ≡ output
+
+-- what a call that makes a bill leaves in the places lent for its lines, by its answer: with a bill place n has line n, and all places behind stay
+pub record LinesLeft (I : Instance) (π : ℕ → ℕ) (t : Tariff) (a : Billed) (lines lines' : List ℕ) : Type 0 where
+  pub billed : (net tax total : ℕ) → a ≡ bills.Bill net tax total →
+      Written (line-count I) lines lines' × ((n : ℕ) → n < line-count I → getD lines' n 0 ≡ line I π t n)
+  pub refused : (f : Refusal) → a ≡ bills.Refused f → lines' ≡ lines
