@@ -19,6 +19,7 @@ struct road {
     unsigned room;  /* about how many demands a cabinet's capacity is made for */
     unsigned width; /* the same for a link */
     int fitted;     /* links are made for a plan instead, and cabinets have room */
+    int blocks;     /* streams about fill blocks of a bill, and cabinets have room */
     unsigned shape; /* of the tree */
     struct bars bars;
 };
@@ -63,7 +64,8 @@ static void draw_road(struct random *random, struct road *road)
     road->count[BARRED] = road->bars.pairs;
     road->most = most[random_below(random, 8)];
     road->fitted = random_once_in(random, 2);
-    road->room = road->fitted ? MOST_ROOM : random_below(random, MOST_ROOM + 1);
+    road->blocks = random_once_in(random, 8);
+    road->room = road->fitted || road->blocks ? MOST_ROOM : random_below(random, MOST_ROOM + 1);
     road->width = random_below(random, 8);
     road->shape = random_below(random, 4);
 }
@@ -78,6 +80,14 @@ static unsigned draw_amount(struct random *random, const struct road *road)
     default:
         return random_below(random, road->most + 1);
     }
+}
+
+/* With framing one less than a block, a block, one more, or as much as a link can carry. */
+static unsigned draw_block(struct random *random)
+{
+    static const unsigned demands[4] = {97, 98, 99, 9998};
+
+    return demands[random_below(random, 4)];
 }
 
 static unsigned draw_capacity(struct random *random, const struct road *road, unsigned demands)
@@ -112,7 +122,8 @@ static void write_cabinet(struct random *random, const struct road *road, unsign
         if (i == CAPACITY)
             put_word(at, 2 * i, draw_capacity(random, road, road->room));
         else if (i == UP_CAPACITY || i == DOWN_CAPACITY)
-            put_word(at, 2 * i, draw_capacity(random, road, road->width));
+            put_word(at, 2 * i,
+                     road->blocks ? MOST_AMOUNT : draw_capacity(random, road, road->width));
         else
             put_word(at, 2 * i, draw_amount(random, road));
 }
@@ -124,7 +135,7 @@ static void write_stream(struct random *random, const struct road *road, uint8_t
 
     put_word(at, 0, from);
     put_word(at, 2, to < from ? to : to + 1);
-    put_word(at, 4, draw_amount(random, road));
+    put_word(at, 4, road->blocks ? draw_block(random) : draw_amount(random, road));
 }
 
 /* The records of a sheet that has its header. */
