@@ -49,6 +49,23 @@ size_t input_length(const struct input *input, int choice, size_t needed)
     }
 }
 
+/* Above the limit are the next figures, some that would be small if cut to 16 or 32 bits, and some
+ * that are below 0 if signed. */
+uint64_t input_figure(const struct input *input, int choice, uint64_t limit)
+{
+    const uint64_t from_limit[8] = {limit,
+                                    limit + 1,
+                                    limit + 2,
+                                    (uint64_t)1 << 16,
+                                    (uint64_t)1 << 32,
+                                    ((uint64_t)1 << 32) + limit,
+                                    (uint64_t)1 << 63,
+                                    UINT64_MAX};
+    uint16_t word = word_at(input->choice, (size_t)choice);
+
+    return word < FIRST_LIMIT ? word % (limit + 1) : from_limit[word % 8];
+}
+
 uint16_t input_word(const struct input *input, size_t number)
 {
     if (input->tail_words == 0)

@@ -1,20 +1,23 @@
 /* input.h: how the bytes of an input say what is lent to the calls.
  *
- * An input is nine bytes of choices, the sheet, and a tail of 16-bit words for plans.
+ * An input is sixteen bytes of choices, the sheet, and a tail of 16-bit words for plans.
  *   byte 0 to 4  the lengths of the planner's output, costs, choices, plan and the tidy copy's
  *                output, each beside the length needed
  *   byte 5       where each piece lies, a bit a piece
  *   byte 6       what outputs and tables hold before
  *   byte 7       how the words of the tail become cabinets
  *   byte 8       how many words the tail has, modulo 16
- * Nine zeros before a sheet are an input: all lengths as needed, and a plan of zeros. */
+ *   byte 9       how many places there are for the lines of a bill, beside those needed
+ *   byte 10, 12 and 14: words for the tariff's block price, slot price and tax rate
+ * Sixteen zeros before a sheet are an input: all lengths as needed, a plan of zeros, and a tariff of
+ * zeros. */
 #ifndef INPUT_H
 #define INPUT_H
 
 #include <stddef.h>
 #include <stdint.h>
 
-enum { CHOICES = 9, MOST_LENGTH_ADDED = 32 };
+enum { MOST_LENGTH_ADDED = 32 };
 enum {
     OUTPUT_LENGTH,
     COSTS_LENGTH,
@@ -24,8 +27,17 @@ enum {
     PLACES,
     DIRT,
     DRAWING,
-    TAIL
+    TAIL,
+    LINES_LENGTH,
+    BLOCK_PRICE,
+    SLOT_PRICE = BLOCK_PRICE + 2,
+    TAX_RATE = SLOT_PRICE + 2,
+    CHOICES = TAX_RATE + 2
 };
+
+/* A word for the tariff is a figure within the limit if it is below this one; from here on it is
+ * the limit or, seven times in eight, a figure above it. */
+enum { FIRST_LIMIT = 32768 };
 
 struct input {
     uint8_t choice[CHOICES];
@@ -43,8 +55,11 @@ uint16_t word_at(const uint8_t *bytes, size_t at);
 /* Puts a word at this byte, low byte first. */
 void put_word(uint8_t *bytes, size_t at, unsigned word);
 
-/* The length that one of the first five choices gives, where `needed` would be right. */
+/* The length that a choice of lengths gives, where `needed` would be right. */
 size_t input_length(const struct input *input, int choice, size_t needed);
+
+/* The figure of the tariff that a word of choices gives. */
+uint64_t input_figure(const struct input *input, int choice, uint64_t limit);
 
 /* A word of the tail, which repeats; 0 if there is none. */
 uint16_t input_word(const struct input *input, size_t number);

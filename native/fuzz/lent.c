@@ -18,6 +18,7 @@ static struct arena arenas[PIECES] = {
     [CHOICE_TABLE] = {.name = "choices", .most = MOST_LENT * sizeof(uint16_t)},
     [COPY] = {.name = "output of gz_tidy", .most = MOST_COPY + MOST_LENGTH_ADDED},
     [RESULT] = {.name = "counts, answer or record", .most = MOST_RESULT * sizeof(uint64_t)},
+    [LINES] = {.name = "lines", .most = (MOST_LINES + MOST_LENGTH_ADDED) * sizeof(uint64_t)},
 };
 
 static uint8_t dirt[DIRTS][MOST_BYTES];

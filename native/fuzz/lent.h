@@ -16,11 +16,12 @@ enum {
     MOST_SHEET = 80000,
     MOST_COPY = 16 + 2 * MOST_SERVICES + 14 * MOST_CABINETS + 6 * MOST_STREAMS + 2
                 + 4 * MOST_SERVICES * MOST_CABINETS,
+    MOST_LINES = 2 * (MOST_CABINETS - 1) + MOST_SERVICES,
     MOST_RESULT = 7
 };
 
 /* The pieces, by the bit of an input's places that says where each lies. */
-enum piece { SHEET, PLAN, OUTPUT, COSTS, CHOICE_TABLE, COPY, RESULT, PIECES };
+enum piece { SHEET, PLAN, OUTPUT, COSTS, CHOICE_TABLE, COPY, RESULT, LINES, PIECES };
 
 /* Each input is run twice: every piece at its other place, and with other dirt. */
 struct run {

@@ -8,18 +8,22 @@
 #include <unistd.h>
 
 #include "damage.h"
+#include "dearest.h"
 #include "random.h"
 #include "require.h"
 #include "sheets.h"
 #include "target.h"
+#include "tariffs.h"
+#include "told.h"
 
 enum { GATE_INPUTS = 100000, GATE_SEED = 1, MOST_WORDS = 12 };
 
 static const char usage[] =
     "usage: fuzz [INPUTS [SEED]]\n"
     "Makes INPUTS inputs (default %d) from SEED (default %d), runs the target on each, and prints\n"
-    "how often each answer and some kinds of plans were met. From %d inputs on, it is a failure\n"
-    "too if a call never gave an answer that it may give, or if no plan of such a kind was met.\n";
+    "how often each answer and some kinds of plans and bills were met. From %d inputs on, it is a\n"
+    "failure too if a call never gave an answer that it may give, or if no plan or bill of such a\n"
+    "kind was met.\n";
 
 /* The input under way, for the line that a failure ends with. */
 static char under_way[64];
@@ -60,11 +64,14 @@ static void draw_choices(struct random *random, uint8_t choice[CHOICES])
         if (!random_once_in(random, 4))
             choice[i] = 0;
     choice[TAIL] = (uint8_t)random_below(random, MOST_WORDS + 1);
+    if (!random_once_in(random, 4))
+        choice[LINES_LENGTH] = 0;
+    draw_tariff(random, choice);
 }
 
 static size_t draw_bytes(struct random *random, uint8_t *bytes)
 {
-    size_t length = random_below(random, random_once_in(random, 16) ? 400 : 40);
+    size_t length = random_below(random, random_once_in(random, 16) ? 400 : 31 + CHOICES);
     size_t i;
 
     for (i = 0; i < length; i++)
@@ -84,7 +91,8 @@ static void draw_words(struct random *random, unsigned tail, uint16_t words[MOST
             words[i] = tail > 0 ? words[i - tail] : 0;
 }
 
-/* Bytes, an example, a road, or one of the last two damaged. Gives the size of the input. */
+/* Bytes, the road of the dearest bill, an example, a road, or one of the last two damaged. Gives the
+ * size of the input. */
 static size_t draw_input(struct random *random, uint8_t *bytes)
 {
     unsigned kind = random_below(random, 16);
@@ -96,6 +104,8 @@ static size_t draw_input(struct random *random, uint8_t *bytes)
     if (kind == 0)
         return draw_bytes(random, bytes);
     draw_choices(random, bytes);
+    if (random_once_in(random, 2048))
+        return draw_dearest(random, bytes);
     draw_words(random, bytes[TAIL], words);
     length = random_once_in(random, 16) ? example_sheet(random, sheet)
                                         : draw_sheet(random, sheet, words);
@@ -118,65 +128,6 @@ static void run_inputs(uint64_t inputs, uint64_t seed)
         snprintf(under_way, sizeof under_way, "input %" PRIu64 " of seed %" PRIu64 "\n", i, seed);
         LLVMFuzzerTestOneInput(bytes, size);
     }
-}
-
-/* True if the header lets the call give this number: whoever lends memory causes refusals of the
- * planner and of the tidy copy, the road of the planner only, whoever wrote the plan of the check
- * only. */
-static int may_give(int call, uint64_t number)
-{
-    switch (group_of(number)) {
-    case LENDER:
-        return call == (number == 21 ? TIDY : FIND);
-    case ROAD:
-        return call == FIND;
-    case PLAN_WRITER:
-        return call == CHECK;
-    default:
-        return 1;
-    }
-}
-
-/* Prints how often each call gave the number. Gives the number of calls that may and never did. */
-static int tell_number(uint64_t number)
-{
-    int missing = 0;
-    int call;
-
-    printf("%6" PRIu64 " ", number);
-    for (call = 0; call < CALLS; call++) {
-        missing += may_give(call, number) && tally.met[call][number] == 0;
-        if (may_give(call, number))
-            printf(" %10" PRIu64, tally.met[call][number]);
-        else
-            printf(" %10s", "");
-    }
-    printf("\n");
-    return missing;
-}
-
-/* Prints how often plans of a kind were met. Gives 1 if none was. */
-static int tell_plans(uint64_t plans, const char *kind)
-{
-    printf("%" PRIu64 " plans %s\n", plans, kind);
-    return plans == 0;
-}
-
-/* Prints the tally. Gives the number of answers and kinds of plans never met. */
-static int tell(void)
-{
-    int missing = 0;
-    uint64_t number;
-
-    printf("%" PRIu64 " inputs, %" PRIu64 " accepted\n", tally.inputs, tally.met[READ][0]);
-    printf("answer  %10s %10s %10s %10s\n", "gz_read", "gz_check", "gz_plan", "gz_tidy");
-    for (number = 0; number <= LAST_REFUSAL; number++)
-        if (is_given(number))
-            missing += tell_number(number);
-    missing += tell_plans(tally.tied, "beside which another costs as much");
-    missing += tell_plans(tally.framed, "refused with 16 for framing alone");
-    missing += tell_plans(tally.idle, "accepted with demand 0 over a link of capacity 0");
-    return missing;
 }
 
 /* A whole number in decimal; false if the text is anything else. */
@@ -204,6 +155,6 @@ int main(int argc, char **argv)
     missing = tell();
     if (missing == 0 || inputs < GATE_INPUTS)
         return 0;
-    fprintf(stderr, "%d answers or kinds of plans were never met\n", missing);
+    fprintf(stderr, "%d answers or kinds of plans and bills were never met\n", missing);
     return 1;
 }

@@ -13,9 +13,10 @@ compile() {
     shift
     cc -std=c99 -Wall -Wextra -Werror -O1 -g \
         -fsanitize=address,undefined -fno-sanitize-recover=all -Inative/include "$@" \
-        native/fuzz/{main,sheets,bars,links,damage,damage_fourth,random}.c \
+        native/fuzz/{main,told,sheets,bars,links,damage,damage_fourth}.c \
+        native/fuzz/{tariffs,dearest,random}.c \
         native/fuzz/{target,rules,layout,reader,checker,loads,planner,rivals,tidy,copy}.c \
-        native/fuzz/{refusals,lent,input,arena,require}.c \
+        native/fuzz/{bill,reckoning,tally,refusals,lent,input,arena,require}.c \
         target/staticlib/libgazrieksne.a -o "$build/$name"
 }
 

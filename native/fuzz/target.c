@@ -3,33 +3,37 @@
 
 #include <string.h>
 
+#include "bill.h"
 #include "checker.h"
 #include "layout.h"
 #include "planner.h"
 #include "require.h"
 #include "rivals.h"
+#include "tally.h"
 #include "tidy.h"
-
-struct tally tally;
 
 struct outcome {
     struct reading reading;
     struct checking checking;
+    struct billing billing;
     struct planning planning;
-    uint64_t tidying; /* the number that gz_tidy returned */
-    size_t ties;      /* other plans met that cost as much as the one written */
+    struct billing written; /* the bill of the plan written, if one is */
+    uint64_t tidying;       /* the number that gz_tidy returned */
+    size_t ties;            /* other plans met that cost as much as the one written */
 };
 
-/* Checks the plan that the input draws, of whatever length it says. */
-static struct checking check_drawn(const struct run *run, const struct reading *reading)
+/* Checks and bills the plan that the input draws, of whatever length it says. */
+static void call_drawn(const struct run *run, struct outcome *outcome)
 {
-    size_t places = input_length(run->input, PLAN_LENGTH, (size_t)reading->counts[1]);
+    const uint64_t *counts = outcome->reading.counts;
+    size_t places = input_length(run->input, PLAN_LENGTH, (size_t)counts[1]);
     uint16_t plan[MOST_PLACES];
     size_t i;
 
     for (i = 0; i < places; i++)
-        plan[i] = input_cabinet(run->input, i, reading->counts[2]);
-    return check_plan(run, reading, plan, places);
+        plan[i] = input_cabinet(run->input, i, counts[2]);
+    outcome->checking = check_plan(run, &outcome->reading, plan, places);
+    outcome->billing = bill_plan(run, &outcome->checking, plan, places);
 }
 
 static void bound_header(const struct run *run)
@@ -48,7 +52,7 @@ static struct outcome call_all(const struct run *run, struct copy *copy)
     if (outcome.reading.number == 0)
         copy_tidy(copy, run->input->sheet);
     outcome.tidying = tidy_sheet(run, &outcome.reading, copy);
-    outcome.checking = check_drawn(run, &outcome.reading);
+    call_drawn(run, &outcome);
     outcome.planning = find_plan(run, &outcome.reading);
     bound_header(run);
     outcome.ties = 0;
@@ -58,6 +62,12 @@ static struct outcome call_all(const struct run *run, struct copy *copy)
 static int same_check(const struct checking *one, const struct checking *other)
 {
     return one->number == other->number && one->answer[1] == other->answer[1];
+}
+
+static int same_bill(const struct billing *one, const struct billing *other)
+{
+    return one->number == other->number
+           && memcmp(one->answer, other->answer, sizeof one->answer) == 0;
 }
 
 static int same_plan(const struct planning *one, const struct planning *other)
@@ -70,7 +80,8 @@ static int same_plan(const struct planning *one, const struct planning *other)
 static void require_same(const struct outcome *one, const struct outcome *other)
 {
     require(one->reading.number == other->reading.number
-                && same_check(&one->checking, &other->checking),
+                && same_check(&one->checking, &other->checking)
+                && same_bill(&one->billing, &other->billing),
             "It keeps no state");
     require(same_plan(&one->planning, &other->planning),
             "What the tables hold before is of no matter");
@@ -82,44 +93,46 @@ static void require_as_sheet(const struct run *run, const struct outcome *outcom
 {
     struct input input = *run->input;
     struct run copied = *run;
-    struct reading reading;
-    struct checking checking;
-    struct planning planning;
+    struct outcome of_copy;
 
     if (outcome->tidying != 0)
         return;
     input.sheet = copy->bytes;
     input.sheet_len = copy->length;
     copied.input = &input;
-    reading = read_sheet(&copied);
-    require(reading.number == 0, "The copy is accepted");
-    require(memcmp(reading.counts, outcome->reading.counts, 4 * sizeof *reading.counts) == 0,
+    of_copy.reading = read_sheet(&copied);
+    require(of_copy.reading.number == 0, "The copy is accepted");
+    require(memcmp(of_copy.reading.counts, outcome->reading.counts, 4 * sizeof(uint64_t)) == 0,
             "each block's records in their order (another r, s or q)");
-    tidy_sheet(&copied, &reading, copy); /* and its own copy is no other */
-    checking = check_drawn(&copied, &reading);
-    require(same_check(&checking, &outcome->checking),
+    tidy_sheet(&copied, &of_copy.reading, copy); /* and its own copy is no other */
+    call_drawn(&copied, &of_copy);
+    require(same_check(&of_copy.checking, &outcome->checking),
             "gz_plan and gz_check answer for it as they do for the sheet (gz_check)");
-    planning = find_plan(&copied, &reading);
-    require(same_plan(&planning, &outcome->planning),
+    require(same_bill(&of_copy.billing, &outcome->billing),
+            "Makes the carrier's monthly bill of a plan (another one for the copy of the sheet)");
+    of_copy.planning = find_plan(&copied, &of_copy.reading);
+    require(same_plan(&of_copy.planning, &outcome->planning),
             "gz_plan and gz_check answer for it as they do for the sheet (gz_plan)");
 }
 
-static void require_written(const struct run *run, const struct outcome *outcome)
+/* Bills the plan written too, if there is one. */
+static void require_written(const struct run *run, struct outcome *outcome)
 {
+    size_t r = (size_t)outcome->reading.counts[1];
     struct checking checking;
 
     if (outcome->planning.number != 0)
         return;
     require(!uses_barred(run->input->sheet, outcome->planning.plan),
             "The plan is valid when no service is on a cabinet that it is barred from");
-    checking = check_plan(run, &outcome->reading, outcome->planning.plan,
-                          (size_t)outcome->reading.counts[1]);
+    checking = check_plan(run, &outcome->reading, outcome->planning.plan, r);
     require(checking.number != 16,
             "The plan is valid when .. no direction of a link has a load above its capacity");
     require(checking.number == 0,
             "On success the first r hold the cabinet of each service (gz_check refuses them)");
     require(checking.answer[1] == outcome->planning.answer[1],
             "gz_plan: answer  group, cost, count (gz_check tells another cost)");
+    outcome->written = bill_plan(run, &checking, outcome->planning.plan, r);
 }
 
 /* Plans that differ from the plan found, or from all services on the root if none was, by a service
@@ -147,9 +160,13 @@ static void count(const struct outcome *outcome)
     tally.met[CHECK][outcome->checking.number]++;
     tally.met[FIND][outcome->planning.number]++;
     tally.met[TIDY][outcome->tidying]++;
-    tally.tied += outcome->ties > 0;
-    tally.framed += outcome->checking.overfull_by_framing != 0;
-    tally.idle += outcome->checking.idle_stream != 0;
+    tally.kinds[TIED] += outcome->ties > 0;
+    tally.kinds[FRAMED] += outcome->checking.overfull_by_framing != 0;
+    tally.kinds[IDLE] += outcome->checking.idle_stream != 0;
+    count_number(&outcome->billing);
+    count_kinds(&outcome->billing);
+    if (outcome->planning.number == 0)
+        count_kinds(&outcome->written);
 }
 
 int LLVMFuzzerTestOneInput(const uint8_t *data, size_t size)

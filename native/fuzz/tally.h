@@ -1,0 +1,46 @@
+/* tally.h: how often each answer was met, and how often some kinds of plans and bills. */
+#ifndef TALLY_H
+#define TALLY_H
+
+#include <stdint.h>
+
+#include "bill.h"
+#include "refusals.h"
+
+/* The calls whose answers are counted, and gz_bill's once more where 22 applies too and is passed
+ * over. */
+enum column { READ, CHECK, FIND, BILL, PASSED, TIDY, COLUMNS };
+
+/* A run must have met bills with these loads, and with a tax that has these thousandths of a cent
+ * past its last whole one. */
+enum { LOADS_SOUGHT = 5, THOUSANDTHS_SOUGHT = 3 };
+
+/* What is counted once for each input, or for each bill. */
+enum kind {
+    TIED,   /* inputs with a plan beside which another was met that costs as much */
+    FRAMED, /* inputs that draw a plan refused with 16 for framing alone */
+    IDLE,   /* inputs that draw a valid plan with a stream of demand 0 on a direction of
+             * capacity 0 */
+    ALONE,  /* bills refused with 22 for each cause alone */
+    LOADED = ALONE + CAUSES,         /* bills with each load sought */
+    ENDING = LOADED + LOADS_SOUGHT,  /* bills with the thousandths sought */
+    BARE = ENDING + THOUSANDTHS_SOUGHT, /* bills without a line */
+    DEAREST,                         /* bills with the highest net that there can be */
+    KINDS
+};
+
+struct tally {
+    uint64_t inputs;
+    uint64_t met[COLUMNS][LAST_REFUSAL + 1];
+    uint64_t kinds[KINDS];
+};
+
+extern struct tally tally;
+
+/* Counts the number given for a bill. */
+void count_number(const struct billing *billing);
+
+/* Counts the kinds that a bill is of. */
+void count_kinds(const struct billing *billing);
+
+#endif

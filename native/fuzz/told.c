@@ -1,0 +1,92 @@
+/* told.c: what a run of the standalone driver tells of its tally. */
+#include "told.h"
+
+#include <inttypes.h>
+#include <stdio.h>
+
+#include "tally.h"
+
+static const char *const columns[COLUMNS] = {"gz_read", "gz_check", "gz_plan",
+                                             "gz_bill", "before 22", "gz_tidy"};
+
+static const char *const kinds[KINDS] = {
+    [TIED] = "plans beside which another costs as much",
+    [FRAMED] = "plans refused with 16 for framing alone",
+    [IDLE] = "plans accepted with demand 0 over a link of capacity 0",
+    [ALONE + BLOCK_PRICE_CAUSE] = "bills refused with 22 for the block price alone",
+    [ALONE + SLOT_PRICE_CAUSE] = "bills refused with 22 for the slot price alone",
+    [ALONE + TAX_RATE_CAUSE] = "bills refused with 22 for the tax rate alone",
+    [ALONE + LINES_CAUSE] = "bills refused with 22 for too few places alone",
+    [LOADED] = "bills with a load of 0",
+    [LOADED + 1] = "bills with a load of 99",
+    [LOADED + 2] = "bills with a load of 100",
+    [LOADED + 3] = "bills with a load of 101",
+    [LOADED + 4] = "bills with a load of 10,000",
+    [ENDING] = "bills with 499 thousandths of a cent in the tax before rounding",
+    [ENDING + 1] = "bills with 500",
+    [ENDING + 2] = "bills with 501",
+    [BARE] = "bills without a line",
+    [DEAREST] = "bills with the highest net that there can be",
+};
+
+/* True if the header lets the call give this number: whoever lends memory causes refusals of the
+ * planner, the bill and the tidy copy, the road of the planner only, whoever wrote the plan of the
+ * check and the bill. A refusal of the sheet or the plan may be given before 22. */
+static int may_give(int column, uint64_t number)
+{
+    switch (group_of(number)) {
+    case LENDER:
+        if (number > 20)
+            return column == (number == 21 ? TIDY : BILL);
+        return column == FIND;
+    case ROAD:
+        return column == FIND;
+    case PLAN_WRITER:
+        return column == CHECK || column == BILL || column == PASSED;
+    default:
+        return column != PASSED || number != 0;
+    }
+}
+
+/* Prints how often each call gave the number. Gives the number of calls that may and never did. */
+static int tell_number(uint64_t number)
+{
+    int missing = 0;
+    int column;
+
+    printf("%6" PRIu64 " ", number);
+    for (column = 0; column < COLUMNS; column++) {
+        missing += may_give(column, number) && tally.met[column][number] == 0;
+        if (may_give(column, number))
+            printf(" %10" PRIu64, tally.met[column][number]);
+        else
+            printf(" %10s", "");
+    }
+    printf("\n");
+    return missing;
+}
+
+/* Prints how often plans or bills of a kind were met. Gives 1 if none was. */
+static int tell_kind(int kind)
+{
+    printf("%" PRIu64 " %s\n", tally.kinds[kind], kinds[kind]);
+    return tally.kinds[kind] == 0;
+}
+
+int tell(void)
+{
+    int missing = 0;
+    uint64_t number;
+    int i;
+
+    printf("%" PRIu64 " inputs, %" PRIu64 " accepted\nanswer ", tally.inputs, tally.met[READ][0]);
+    for (i = 0; i < COLUMNS; i++)
+        printf(" %10s", columns[i]);
+    printf("\n");
+    for (number = 0; number <= LAST_REFUSAL; number++)
+        if (is_given(number))
+            missing += tell_number(number);
+    for (i = 0; i < KINDS; i++)
+        missing += tell_kind(i);
+    return missing;
+}

@@ -1,0 +1,8 @@
+/* told.h: what a run of the standalone driver tells of its tally. */
+#ifndef TOLD_H
+#define TOLD_H
+
+/* Prints the tally. Gives the number of answers and kinds of plans and bills never met. */
+int tell(void);
+
+#endif
