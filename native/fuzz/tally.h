@@ -21,11 +21,11 @@ enum kind {
     FRAMED, /* inputs that draw a plan refused with 16 for framing alone */
     IDLE,   /* inputs that draw a valid plan with a stream of demand 0 on a direction of
              * capacity 0 */
-    ALONE,  /* bills refused with 22 for each cause alone */
-    LOADED = ALONE + CAUSES,         /* bills with each load sought */
-    ENDING = LOADED + LOADS_SOUGHT,  /* bills with the thousandths sought */
+    ALONE,  /* from here on, bills refused with 22 for each cause alone */
+    LOADED = ALONE + CAUSES,            /* from here on, bills with each load sought */
+    ENDING = LOADED + LOADS_SOUGHT,     /* from here on, bills with each of the thousandths */
     BARE = ENDING + THOUSANDTHS_SOUGHT, /* bills without a line */
-    DEAREST,                         /* bills with the highest net that there can be */
+    DEAREST,                            /* bills with the highest net that there can be */
     KINDS
 };
 

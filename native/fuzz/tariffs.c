@@ -20,9 +20,19 @@ static unsigned draw_figure(struct random *random)
     }
 }
 
+/* A net of a few cents, and about half of it for the tax. */
+static void draw_half(struct random *random, uint8_t choice[CHOICES])
+{
+    put_word(choice, BLOCK_PRICE, random_below(random, 2));
+    put_word(choice, SLOT_PRICE, random_below(random, 2));
+    put_word(choice, TAX_RATE, 499 + random_below(random, 3));
+}
+
 void draw_tariff(struct random *random, uint8_t choice[CHOICES])
 {
     put_word(choice, BLOCK_PRICE, draw_figure(random));
     put_word(choice, SLOT_PRICE, draw_figure(random));
     put_word(choice, TAX_RATE, draw_figure(random));
+    if (random_once_in(random, 16))
+        draw_half(random, choice);
 }

@@ -29,6 +29,19 @@ static const char *const kinds[KINDS] = {
     [DEAREST] = "bills with the highest net that there can be",
 };
 
+/* The call whose lender causes this number. */
+static int lent_to(uint64_t number)
+{
+    switch (number) {
+    case 21:
+        return TIDY;
+    case 22:
+        return BILL;
+    default:
+        return FIND;
+    }
+}
+
 /* True if the header lets the call give this number: whoever lends memory causes refusals of the
  * planner, the bill and the tidy copy, the road of the planner only, whoever wrote the plan of the
  * check and the bill. A refusal of the sheet or the plan may be given before 22. */
@@ -36,9 +49,7 @@ static int may_give(int column, uint64_t number)
 {
     switch (group_of(number)) {
     case LENDER:
-        if (number > 20)
-            return column == (number == 21 ? TIDY : BILL);
-        return column == FIND;
+        return column == lent_to(number);
     case ROAD:
         return column == FIND;
     case PLAN_WRITER:
