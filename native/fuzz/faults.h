@@ -5,6 +5,8 @@
 #include <stddef.h>
 #include <stdint.h>
 
+#include "reckoning.h"
+
 /* The calls, each with what it was given; the number is what it returns. */
 struct sheet {
     const uint8_t *bytes;
@@ -44,6 +46,17 @@ struct plan {
     uint64_t number;
 };
 
+struct bill {
+    struct sheet sheet;
+    const uint16_t *plan;
+    size_t plan_len;
+    struct tariff tariff;
+    uint64_t *lines;
+    size_t lines_len;
+    uint64_t *answer;
+    uint64_t number;
+};
+
 struct tidy {
     struct sheet sheet;
     uint8_t *output;
@@ -58,7 +71,8 @@ struct bound {
     uint64_t number;
 };
 
-/* One fault: the calls that it makes wrong, or the sheet that all calls are given instead. */
+/* One fault: the calls that it makes wrong, the sheet that all calls are given instead, or what it
+ * changes in the right bill of a valid plan. */
 struct fault {
     const char *what;
     struct sheet (*sheet)(struct sheet sheet);
@@ -69,6 +83,8 @@ struct fault {
     void (*barred)(struct record *call);
     void (*check)(struct check *call);
     void (*plan)(struct plan *call);
+    void (*bill)(struct bill *call);
+    void (*change)(struct reckoning *made, const struct bill *call);
     void (*tidy)(struct tidy *call);
     void (*bound)(struct bound *call);
 };
@@ -81,6 +97,8 @@ extern const struct fault checker_faults[];
 extern const struct fault framing_faults[];
 extern const struct fault planner_faults[];
 extern const struct fault first_faults[];
+extern const struct fault reckoning_faults[];
+extern const struct fault bill_faults[];
 extern const struct fault copy_faults[];
 extern const struct fault tidy_faults[];
 
@@ -92,6 +110,7 @@ void real_stream(struct record *call);
 void real_barred(struct record *call);
 void real_check(struct check *call);
 void real_plan(struct plan *call);
+void real_bill(struct bill *call);
 void real_tidy(struct tidy *call);
 void real_bound(struct bound *call);
 
@@ -108,6 +127,9 @@ int has_few_plans(struct counts counts);
 
 /* Makes a plan the next one in order; false behind the last. */
 int next_plan(uint16_t *plan, struct counts counts);
+
+/* Writes the lines of a bill, for which there are places, and tells its sums. */
+void give_bill(struct bill *call, const struct reckoning *made);
 
 /* A copy of a sheet, to be changed. */
 extern uint8_t other_sheet[];

@@ -21,6 +21,8 @@ uint64_t __real_gz_barred(const uint8_t *, size_t, size_t, uint64_t *);
 uint64_t __real_gz_check(const uint8_t *, size_t, const uint16_t *, size_t, uint64_t *);
 uint64_t __real_gz_plan(const uint8_t *, size_t, uint16_t *, size_t, uint64_t *, size_t, uint16_t *,
                         size_t, uint64_t *);
+uint64_t __real_gz_bill(const uint8_t *, size_t, const uint16_t *, size_t, uint64_t, uint64_t,
+                        uint64_t, uint64_t *, size_t, uint64_t *);
 uint64_t __real_gz_tidy(const uint8_t *, size_t, uint8_t *, size_t, uint64_t *);
 uint64_t __real_gz_bound(size_t, size_t, uint64_t *);
 
@@ -64,6 +66,14 @@ void real_plan(struct plan *call)
     call->number = __real_gz_plan(call->sheet.bytes, call->sheet.length, call->output,
                                   call->output_len, call->costs, call->costs_len, call->choices,
                                   call->choices_len, call->answer);
+}
+
+void real_bill(struct bill *call)
+{
+    call->number = __real_gz_bill(call->sheet.bytes, call->sheet.length, call->plan, call->plan_len,
+                                  call->tariff.block_price, call->tariff.slot_price,
+                                  call->tariff.tax_rate, call->lines, call->lines_len,
+                                  call->answer);
 }
 
 void real_tidy(struct tidy *call)
@@ -141,13 +151,23 @@ int next_plan(uint16_t *plan, struct counts counts)
     return 0;
 }
 
+void give_bill(struct bill *call, const struct reckoning *made)
+{
+    memcpy(call->lines, made->lines, made->many * sizeof *made->lines);
+    call->number = 0;
+    call->answer[0] = 0;
+    call->answer[1] = made->net;
+    call->answer[2] = made->tax;
+    call->answer[3] = made->total;
+}
+
 /* The fault of this number, counted through all lists. */
 static const struct fault *find(unsigned long number)
 {
     static const struct fault none = {.what = "none"};
     const struct fault *lists[] = {sheet_faults, fourth_faults, reader_faults, checker_faults,
-                                   framing_faults, planner_faults, first_faults, copy_faults,
-                                   tidy_faults};
+                                   framing_faults, planner_faults, first_faults,
+                                   reckoning_faults, bill_faults, copy_faults, tidy_faults};
     const struct fault *fault;
     size_t i;
 
@@ -236,6 +256,33 @@ uint64_t __wrap_gz_plan(const uint8_t *sheet, size_t sheet_len, uint16_t *output
                         choices_len, answer, 0};
 
     (chosen()->plan != NULL ? chosen()->plan : real_plan)(&call);
+    return call.number;
+}
+
+/* Gives a valid plan the right bill as the fault changes it. */
+static void change_bill(struct bill *call)
+{
+    struct reckoning made;
+
+    real_bill(call);
+    if (call->number != 0)
+        return;
+    reckon_bill(&made, call->sheet.bytes, call->plan, &call->tariff);
+    chosen()->change(&made, call);
+    give_bill(call, &made);
+}
+
+uint64_t __wrap_gz_bill(const uint8_t *sheet, size_t sheet_len, const uint16_t *plan,
+                        size_t plan_len, uint64_t block_price, uint64_t slot_price,
+                        uint64_t tax_rate, uint64_t *lines, size_t lines_len, uint64_t *answer)
+{
+    struct bill call = {given(sheet, sheet_len), plan, plan_len,
+                        {block_price, slot_price, tax_rate}, lines, lines_len, answer, 0};
+
+    if (chosen()->change != NULL)
+        change_bill(&call);
+    else
+        (chosen()->bill != NULL ? chosen()->bill : real_bill)(&call);
     return call.number;
 }
 

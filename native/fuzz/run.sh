@@ -5,7 +5,7 @@ set -euo pipefail
 ulimit -c 0
 
 build=target/native
-wrapped=(read service cabinet stream barred check plan tidy bound)
+wrapped=(read service cabinet stream barred check plan bill tidy bound)
 
 # Compiles the given files, beside the target and the driver, into a program of the given name.
 compile() {
@@ -30,7 +30,8 @@ mkdir -p "$build"
 compile fuzz
 compile fuzz-faulty "${wrapped[@]/#/-Wl,--wrap=gz_}" \
     native/fuzz/{faulty,faults_sheet,faults_fourth,faults_reader,faults_checker}.c \
-    native/fuzz/{faults_framing,faults_planner,faults_first,faults_copy,faults_tidy}.c
+    native/fuzz/{faults_framing,faults_planner,faults_first,faults_reckoning,faults_bill}.c \
+    native/fuzz/{faults_copy,faults_tidy}.c
 
 "$build/fuzz"
 
