@@ -7,8 +7,9 @@
 
 #include "random.h"
 
-/* Writes an input that has its choices: those of the plan and, every other time, of the tariff are
- * changed, and the planner's output is too short, for it would take long. Gives the input's size. */
+/* Completes an input that has its choices: those of the plan and, every other time, of the tariff
+ * are changed, and the planner's output is too short, for it would take long. Gives the input's
+ * size. */
 size_t draw_dearest(struct random *random, uint8_t *bytes);
 
 #endif

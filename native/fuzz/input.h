@@ -9,7 +9,7 @@
  *   byte 8       how many words the tail has, modulo 16
  *   byte 9       how many places there are for the lines of a bill, beside those needed
  *   byte 10, 12 and 14: words for the tariff's block price, slot price and tax rate
- * Sixteen zeros before a sheet are an input: all lengths as needed, a plan of zeros, and a tariff of
+ * Sixteen zeros before a sheet are an input: all lengths as needed, a plan of zeros and a tariff of
  * zeros. */
 #ifndef INPUT_H
 #define INPUT_H

@@ -91,8 +91,8 @@ static void draw_words(struct random *random, unsigned tail, uint16_t words[MOST
             words[i] = tail > 0 ? words[i - tail] : 0;
 }
 
-/* Bytes, the road of the dearest bill, an example, a road, or one of the last two damaged. Gives the
- * size of the input. */
+/* Bytes, the road of the dearest bill, an example, a road, or one of the last two damaged. Gives
+ * the size of the input. */
 static size_t draw_input(struct random *random, uint8_t *bytes)
 {
     unsigned kind = random_below(random, 16);

@@ -33,8 +33,8 @@ static const struct refusal {
     {20, PLAN_WRITER, "20  a service is on a cabinet that it is barred from"},
     {15, PLAN_WRITER, "15  a cabinet is overfull"},
     {16, PLAN_WRITER, "16  a direction of a link is overfull, framing counted"},
-    {22, LENDER, "22  a price or the tax rate of the tariff is outside its limits, or there are too "
-                 "few places for the lines of the bill"},
+    {22, LENDER, "22  a price or the tax rate of the tariff is outside its limits, or there are "
+                 "too few places for the lines of the bill"},
     {21, LENDER, "21  the output is shorter than the sheet that is to be written there"},
     {0, NOBODY, "group 0: no refusal"},
 };
