@@ -2,8 +2,6 @@
  * and a cabinet of its own, and two streams between the ends of a chain fill every direction. */
 #include "dearest.h"
 
-#include <string.h>
-
 #include "input.h"
 #include "layout.h"
 #include "lent.h"
@@ -22,6 +20,16 @@ static size_t put_words(uint8_t *bytes, size_t at, const unsigned *words, size_t
     return at + 2 * many;
 }
 
+static size_t write_services(uint8_t *sheet, size_t at)
+{
+    static const unsigned demand = MOST_AMOUNT;
+    int i;
+
+    for (i = 0; i < MOST_SERVICES; i++)
+        at = put_words(sheet, at, &demand, 1);
+    return at;
+}
+
 static size_t write_cabinets(uint8_t *sheet, size_t at)
 {
     unsigned c;
@@ -36,22 +44,20 @@ static size_t write_cabinets(uint8_t *sheet, size_t at)
     return at;
 }
 
+/* Gives the length of the sheet. */
 static size_t write_sheet(uint8_t *sheet)
 {
     static const unsigned streams[3 * DEAREST_STREAMS] = {0, 1, MOST_AMOUNT - FRAMING,
                                                           1, 0, MOST_AMOUNT - FRAMING};
-    unsigned header[HEADER / 2] = {MOST_SERVICES, MOST_CABINETS, DEAREST_STREAMS, HEADER};
-    static const unsigned demand = MOST_AMOUNT;
-    size_t at = HEADER;
-    int i;
+    size_t cabinets_at = write_services(sheet, HEADER);
+    size_t streams_at = write_cabinets(sheet, cabinets_at);
+    size_t length = put_words(sheet, streams_at, streams, 3 * DEAREST_STREAMS);
+    unsigned header[HEADER / 2] = {MOST_SERVICES, MOST_CABINETS, DEAREST_STREAMS, HEADER,
+                                   (unsigned)cabinets_at, (unsigned)streams_at,
+                                   (unsigned)length, 0};
 
-    for (i = 0; i < MOST_SERVICES; i++)
-        at = put_words(sheet, at, &demand, 1);
-    header[4] = (unsigned)at;
-    header[5] = (unsigned)(at = write_cabinets(sheet, at));
-    header[6] = (unsigned)(at = put_words(sheet, at, streams, 3 * DEAREST_STREAMS));
     put_words(sheet, 0, header, HEADER / 2);
-    return at;
+    return length;
 }
 
 size_t draw_dearest(struct random *random, uint8_t *bytes)
