@@ -99,6 +99,7 @@ extern const struct fault planner_faults[];
 extern const struct fault first_faults[];
 extern const struct fault reckoning_faults[];
 extern const struct fault bill_faults[];
+extern const struct fault lines_faults[];
 extern const struct fault copy_faults[];
 extern const struct fault tidy_faults[];
 
@@ -127,6 +128,12 @@ int has_few_plans(struct counts counts);
 
 /* Makes a plan the next one in order; false behind the last. */
 int next_plan(uint16_t *plan, struct counts counts);
+
+/* The lines of a bill for a sheet whose r and s are within their limits. */
+size_t lines_needed(struct sheet sheet);
+
+/* True if a figure of the tariff is outside its limits. */
+int is_outside(const struct tariff *tariff);
 
 /* Writes the lines of a bill, for which there are places, and tells its sums. */
 void give_bill(struct bill *call, const struct reckoning *made);

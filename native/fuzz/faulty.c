@@ -7,6 +7,7 @@
 #include <string.h>
 
 #include "faults.h"
+#include "gazrieksne.h"
 #include "input.h"
 #include "layout.h"
 #include "lent.h"
@@ -151,6 +152,17 @@ int next_plan(uint16_t *plan, struct counts counts)
     return 0;
 }
 
+size_t lines_needed(struct sheet sheet)
+{
+    return 2 * (count_of(sheet.bytes, CABINETS) - 1) + count_of(sheet.bytes, SERVICES);
+}
+
+int is_outside(const struct tariff *tariff)
+{
+    return tariff->block_price > GZ_MAX_PRICE || tariff->slot_price > GZ_MAX_PRICE
+           || tariff->tax_rate > GZ_MAX_RATE;
+}
+
 void give_bill(struct bill *call, const struct reckoning *made)
 {
     memcpy(call->lines, made->lines, made->many * sizeof *made->lines);
@@ -167,7 +179,8 @@ static const struct fault *find(unsigned long number)
     static const struct fault none = {.what = "none"};
     const struct fault *lists[] = {sheet_faults, fourth_faults, reader_faults, checker_faults,
                                    framing_faults, planner_faults, first_faults,
-                                   reckoning_faults, bill_faults, copy_faults, tidy_faults};
+                                   reckoning_faults, bill_faults, lines_faults, copy_faults,
+                                   tidy_faults};
     const struct fault *fault;
     size_t i;
 
