@@ -1,6 +1,6 @@
 /* Plans road M through the C interface: prints the cost, the count of splits weighed and each
- * service's cabinet. Two plans of M cost 15; the one with the lowest cabinet for service 0 is
- * found, service 0 on cabinet 0 and service 1 on cabinet 1. */
+ * service's cabinet, and the carrier's bill. Two plans of M cost 15; the one with the lowest
+ * cabinet for service 0 is found, service 0 on cabinet 0 and service 1 on cabinet 1. */
 #include <inttypes.h>
 #include <stdio.h>
 
@@ -15,6 +15,24 @@ static const uint16_t words[34] = {
     0, 3, 2, 2, 1, 6, 1,        /* cabinet 2 */
     0, 1, 3                     /* the stream */
 };
+
+/* Bills the plan at 250 cents a block and 30 cents a slot, with 5 % of tax: prints the lines that
+ * are not 0, the net, the tax and the total. Gives the refusal's number. */
+static uint64_t print_bill(const uint8_t *sheet, size_t length, const uint16_t *plan, size_t places)
+{
+    uint64_t lines[GZ_MOST_LINES] = {0};
+    uint64_t bill[4];
+    uint64_t refusal =
+        gz_bill(sheet, length, plan, places, 250, 30, 50, lines, GZ_MOST_LINES, bill);
+    size_t n;
+
+    for (n = 0; n < GZ_MOST_LINES; n++)
+        if (lines[n] != 0)
+            printf("line %zu: %" PRIu64 "\n", n, lines[n]);
+    printf("bill %" PRIu64 " net %" PRIu64 " tax %" PRIu64 " total %" PRIu64 "\n", refusal,
+           bill[1], bill[2], bill[3]);
+    return refusal;
+}
 
 int main(void)
 {
@@ -44,5 +62,7 @@ int main(void)
         printf("%zu %u\n", i, (unsigned)output[i]);
     refusal = gz_check(sheet, sizeof sheet, output, (size_t)counts[1], checked);
     printf("check %" PRIu64 " cost %" PRIu64 "\n", refusal, checked[1]);
-    return refusal != 0 || checked[1] != answer[1];
+    if (refusal != 0 || checked[1] != answer[1])
+        return 1;
+    return print_bill(sheet, sizeof sheet, output, (size_t)counts[1]) != 0;
 }

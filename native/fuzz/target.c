@@ -107,12 +107,12 @@ static void require_as_sheet(const struct run *run, const struct outcome *outcom
     tidy_sheet(&copied, &of_copy.reading, copy); /* and its own copy is no other */
     call_drawn(&copied, &of_copy);
     require(same_check(&of_copy.checking, &outcome->checking),
-            "gz_plan and gz_check answer for it as they do for the sheet (gz_check)");
+            "gz_plan, gz_check and gz_bill answer for it as they do for the sheet (gz_check)");
     require(same_bill(&of_copy.billing, &outcome->billing),
-            "Makes the carrier's monthly bill of a plan (another one for the copy of the sheet)");
+            "gz_plan, gz_check and gz_bill answer for it as they do for the sheet (gz_bill)");
     of_copy.planning = find_plan(&copied, &of_copy.reading);
     require(same_plan(&of_copy.planning, &outcome->planning),
-            "gz_plan and gz_check answer for it as they do for the sheet (gz_plan)");
+            "gz_plan, gz_check and gz_bill answer for it as they do for the sheet (gz_plan)");
 }
 
 /* Bills the plan written too, if there is one. */

@@ -172,8 +172,8 @@ uint64_t gz_bill(const uint8_t *sheet, size_t sheet_len, const uint16_t *plan, s
  * of service, then of cabinet, each once. Without a pair there is no fourth block, and the eighth
  * word is 0; any other block without records has for its offset the place where it would stand. Two
  * accepted sheets have equal copies exactly when their records agree and they bar the same pairs.
- * The copy is accepted, gz_plan and gz_check answer for it as they do for the sheet, and its own
- * copy is no other. Returns 0, else 1 to 9, 18, 19 or 21.
+ * The copy is accepted, gz_plan, gz_check and gz_bill answer for it as they do for the sheet, and
+ * its own copy is no other. Returns 0, else 1 to 9, 18, 19 or 21.
  *   output, output_len  bytes for the copy. On success the copy stands at their front. Bytes behind
  *                       it stay as they are, and in a refusal all do.
  *   answer              group, length of the copy in bytes; the length is 0 in a refusal
