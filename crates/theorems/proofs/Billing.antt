@@ -7,14 +7,17 @@ use mathlib.Core.List.{List, _++_}
 use lib.ListN.{length, drop, getD}
 use Rattle.finite.specs.Below.{sum-below}
 use Rattle.finite.proofs.Sums.{sum-ext, le-sum}
+use Rattle.sheet.specs.Limits.{max-services, max-cabinets}
 use Rattle.sheet.specs.Instance.{Instance, instance}
 use Rattle.sheet.specs.declared.Sheet.{Sheet}
 use Rattle.sheet.specs.declared.Refusal.{Refusal}
 use Rattle.sheet.specs.declared.Reading.the-variants.{Accepted}
 use Rattle.sheet.specs.Reading.{reading}
+use Rattle.sheet.proofs.Promises.{well-formed}
 use Rattle.embedding.specs.First.{places}
 use Rattle.embedding.specs.Road.{up, down}
 use Rattle.embedding.specs.Plan.{place, carried}
+use Rattle.embedding.proofs.First.{places-length}
 use Rattle.checker.specs.Check.{checked}
 use Rattle.checker.specs.declared.Checked.{Checked}
 use Rattle.tidy.specs.Copy.{tidied}
@@ -23,7 +26,7 @@ use Rattle.bill.specs.Answers.{bill-numbers, billed-after, billed, lines-after}
 use Rattle.bill.specs.declared.tariff.Tariff.{Tariff}
 use Rattle.bill.specs.declared.Billed.{Billed}
 use Rattle.bill.specs.declared.Billed.the-variants.{Bill, Refused}
-use Rattle.bill.proofs.Put.{front-length, front-at, front-behind}
+use Rattle.bill.proofs.Put.{front-at}
 use Rattle.bill.proofs.Figures.{line-link, line-service, lines-sum, net-low, rated-low, total-low}
 use Rattle.bill.proofs.Answers.{billable, made-iff, bill-answered}
 use Rattle.theorems.proofs.Copying as copying
@@ -54,11 +57,7 @@ module _ (bytes plan lines lines' : List ℕ) (t : Tariff) where
         billed = λ m x k q.
             let room : line-count I ≤ length lines = made-iff bytes plan t (length lines) m x k .0 (sym e ∙ q) .2 in
             let w = after a o m x k q in (
-              record {
-                there = room;
-                length-stays = ap length w ∙ front-length (line-count I) (line I π t) lines room;
-                rest = λ i l. ap (λ (z : List ℕ). getD z i 0) w ∙ front-behind (line-count I) (line I π t) lines i l;
-              },
+              copying.front (line-count I) (places (line-count I) (line I π t)) lines lines' (sym (places-length (line-count I) (line I π t))) room w .1,
               λ n l. ap (λ (z : List ℕ). getD z n 0) w ∙ front-at (line-count I) (line I π t) lines n l,
             );
         refused = λ f q. o ∙ ap (λ (b : Billed). lines-after I π t b lines) q;
@@ -75,7 +74,13 @@ module _ (bytes plan lines lines' : List ℕ) (t : Tariff) where
         made .5 ∙ ap₂ (λ (a b : ℕ). a + b) (sym (made .3)) (sym (made .4)),
       )
 
--- ---- how high the figures are
+-- ---- how many lines there are, and how high the figures are
+
+pub room : (bytes : List ℕ) (h : Sheet) → reading bytes ≡ Accepted h →
+    (line-count (instance bytes) ≡ 2 * (instance bytes .s - 1) + instance bytes .r)
+    × (line-count (instance bytes) ≤ 2 * (max-cabinets - 1) + max-services)
+unfolding line-count directions
+room bytes h reads = let W = well-formed bytes h reads in (refl, omega (arith, W .cabinets, W .services))
 
 pub low : (bytes plan : List ℕ) (t : Tariff) (lines m x k : ℕ) → billed bytes plan t lines ≡ Bill m x k →
     ((n : ℕ) → n < line-count (instance bytes) → line (instance bytes) (place plan) t n ≤ m)

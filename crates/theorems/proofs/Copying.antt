@@ -43,8 +43,8 @@ pub either : (bytes : List ℕ) (n : ℕ) →
     ((m : ℕ) × (tidy-answer bytes n ≡ Bytes m)) ⊎ ((f : Refusal) × (tidy-answer bytes n ≡ Refused f) × Given tidy-numbers f)
 either bytes n = ⊎-elim inl (λ a. inr (a .0, a .1, record { grouped = a .2; listed = a .3 })) (tidy-answered bytes n)
 
--- bytes at the front of some others, and those behind them
-front : (n : ℕ) (sheet output output' : List ℕ) → n ≡ length sheet → n ≤ length output → output' ≡ sheet ++ drop n output
+-- numbers at the front of some others, and those behind them
+pub front : (n : ℕ) (sheet output output' : List ℕ) → n ≡ length sheet → n ≤ length output → output' ≡ sheet ++ drop n output
     → (take n output' ≡ sheet) × Written n output output'
 front n sheet output output' e h o = (
   ap (take n) o ∙ take-at sheet (drop n output) n (sym e),

@@ -331,6 +331,13 @@ pub bill-exactly-when :
     × (k ≡ total (instance bytes) (place plan) t))
 bill-exactly-when = made-iff
 
+-- There are 2 × (s - 1) + r lines, and no bill has more than that of a sheet with as many cabinets and services as there may be.
+pub bill-room :
+    (bytes : List ℕ) (h : Sheet) → reading bytes ≡ readings.Accepted h →
+    (line-count (instance bytes) ≡ 2 * (instance bytes .s - 1) + instance bytes .r)
+    × (line-count (instance bytes) ≤ 2 * (max-cabinets - 1) + max-services)
+bill-room = billing.room
+
 -- With a bill its lines stand at the front of the places lent, and all behind them stays; after a refusal all stays. (`bill::bill`, clauses `answer` and
 -- `lines`.)
 pub bill-memory :
