@@ -29,6 +29,7 @@ impl Copied {
             origin: Origin::Directed(self.name),
             sheet: self.sheet.clone(),
             plans: vec![vec![0, 1], vec![]],
+            tariffs: vec![],
             lent: vec![Lent {
                 output: SERVICES,
                 costs: 12,

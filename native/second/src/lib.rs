@@ -1,16 +1,19 @@
-//! A second reader, check, planner and writer of tidy copies of planning sheets.
+//! A second reader, check, planner, maker of bills and writer of tidy copies of planning sheets.
 //!
 //! It is written from the papers alone and is meant to be plainly right rather than fast: the
-//! planner tries every plan in order and keeps the first of the cheapest, and the splits weighed
-//! are counted by their definition.
+//! planner tries every plan in order and keeps the first of the cheapest, the splits weighed are
+//! counted by their definition, and so are the blocks of a bill.
 #![forbid(unsafe_code)]
 
 pub mod barred;
 pub mod bars;
+pub mod bill;
+pub mod billed;
 pub mod bound;
 pub mod build;
 pub mod check;
 pub mod copies;
+pub mod feature;
 pub mod form;
 pub mod framed;
 pub mod framing;
@@ -28,6 +31,7 @@ pub mod tidy;
 pub mod tied;
 pub mod weigh;
 
+pub use bill::{Bill, Tariff, bill};
 pub use bound::bound;
 pub use build::{Layout, build};
 pub use check::check;

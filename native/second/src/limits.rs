@@ -1,4 +1,4 @@
-//! The limits of a planning sheet and the sizes of its parts.
+//! The limits of a planning sheet and the sizes of its parts, and those of a tariff and its bill.
 
 /// The most services, r.
 pub const SERVICES: usize = 10;
@@ -29,3 +29,13 @@ pub const PAIR: usize = 4;
 /// Bytes of the longest tidy copy.
 pub const LONGEST_COPY: usize =
     HEADER + SERVICE * SERVICES + CABINET * CABINETS + STREAM * STREAMS + COUNT + PAIR * MAX_PAIRS;
+
+/// The highest block price and the highest slot price of a tariff, in cents.
+pub const TARIFF_PRICE: u64 = 10_000;
+/// The highest tax rate of a tariff, in thousandths.
+pub const TAX_RATE: u64 = 1_000;
+/// Units of load of a whole block.
+pub const BLOCK: u64 = 100;
+
+/// Lines of the longest bill.
+pub const MOST_LINES: usize = 2 * (CABINETS - 1) + SERVICES;

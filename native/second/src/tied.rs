@@ -23,6 +23,7 @@ impl Tied {
             origin: Origin::Directed(self.name),
             sheet: tight(&self.sheet),
             plans: vec![self.plan.clone()],
+            tariffs: vec![],
             lent: vec![Lent {
                 output: self.sheet.services.len(),
                 costs: entries,

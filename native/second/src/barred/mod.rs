@@ -80,6 +80,7 @@ impl Directed {
             origin: Origin::Directed(self.name),
             sheet: self.sheet.clone(),
             plans: self.checks.iter().map(|(plan, _)| plan.clone()).collect(),
+            tariffs: vec![],
             lent: self.plans.iter().map(|(lent, _)| *lent).collect(),
         }
     }

@@ -58,6 +58,7 @@ impl Framed {
             origin: Origin::Directed(self.name),
             sheet: tight(&self.sheet),
             plans: self.checks.iter().map(|(plan, _)| plan.clone()).collect(),
+            tariffs: vec![],
             lent: vec![Lent {
                 output: self.sheet.services.len(),
                 costs: entries,

@@ -1,9 +1,10 @@
-//! A case: a sheet, plans to check on it, and the lengths of what is lent to the planner.
+//! A case: a sheet, plans to check and to bill on it, and the lengths of what is lent to the planner.
 
 use super::Random;
 use super::damage::{Damage, damage};
 use super::layout::layout;
 use super::road::{Kind, road};
+use crate::bill::Tariff;
 use crate::build::build;
 use crate::plan::{MOST_PLANS, plans, solve};
 use crate::read::read;
@@ -51,6 +52,8 @@ pub struct Case {
     pub origin: Origin,
     pub sheet: Vec<u8>,
     pub plans: Vec<Vec<u16>>,
+    /// Tariffs that the plans are billed by, beside those drawn for any case.
+    pub tariffs: Vec<Tariff>,
     pub lent: Vec<Lent>,
 }
 
@@ -84,6 +87,7 @@ pub fn with_calls(random: &mut Random, origin: Origin, sheet: Vec<u8>) -> Case {
         origin,
         sheet,
         plans,
+        tariffs: vec![],
         lent,
     }
 }

@@ -1,4 +1,4 @@
-//! Random roads, damaged sheets and cases, the same for the same seed.
+//! Random roads, damaged sheets, tariffs and cases, the same for the same seed.
 
 pub mod amounts;
 pub mod bars;
@@ -8,6 +8,7 @@ pub mod layout;
 pub mod misplaced;
 pub mod road;
 pub mod source;
+pub mod tariff;
 pub mod tied;
 
 pub use case::{Case, Lent, Size, case};

@@ -32,6 +32,8 @@ pub enum Kind {
     Crowd,
     /// A long chain with high prices, so that costs pass 32 bits.
     Long,
+    /// Room for everything, and streams whose loads come to about whole blocks of a bill.
+    Blocks,
     /// Everything at its largest or 0.
     Extreme,
     /// Up to 10 services, 200 cabinets and 100 streams: too many plans to try.
@@ -84,11 +86,13 @@ const KINDS: [Kind; 28] = [
     Kind::Small,
 ];
 
-/// A road no larger than the size, and its kind: once in four times one of those that tie.
+/// A road no larger than the size, and its kind: once in four times one of those that tie, and
+/// sometimes one with loads of about whole blocks.
 pub fn road(random: &mut Random, size: Size) -> (Kind, Sheet) {
     let kind = match random.below(400) {
         0 => Kind::Long,
         1..=100 => random.pick(&tied::KINDS),
+        101..=116 => Kind::Blocks,
         _ => random.pick(&KINDS),
     };
     (kind, of_kind(random, kind, size))
@@ -113,6 +117,7 @@ fn unbarred(random: &mut Random, kind: Kind, size: Size) -> Sheet {
         Kind::Streams => streams(random, size),
         Kind::Crowd => crowd(random),
         Kind::Long => long(random),
+        Kind::Blocks => blocks(random, size),
         Kind::Large => large(random),
         _ => tied(random, kind, size),
     }
@@ -264,6 +269,31 @@ fn crowd(random: &mut Random) -> Sheet {
         }
     }
     prices(random, Scale::Small, &mut sheet.cabinets);
+    ample(&mut sheet.cabinets);
+    sheet
+}
+
+/// Demands that with their framing are about whole blocks, parts of one, or all that a link carries.
+const BLOCK_DEMANDS: [u16; 12] = [0, 31, 48, 48, 97, 97, 98, 98, 99, 99, 9_998, 9_998];
+
+/// Two services or more on roomy cabinets, and streams of such demands, every other time all of one
+/// pair.
+fn blocks(random: &mut Random, size: Size) -> Sheet {
+    let (r, s) = size.draw(random);
+    let (r, s) = (r.max(size.services.min(2)), s.max(size.cabinets.min(2)));
+    let mut sheet = of_numbers(random, r, s, Scale::Small);
+    let q = random.pick(&[1, 1, 2, 3]);
+    sheet.streams = some_streams(random, r, q, Scale::Small);
+    for stream in &mut sheet.streams {
+        stream.demand = random.pick(&BLOCK_DEMANDS);
+    }
+    if let Some(&first) = sheet.streams.first()
+        && random.once_in(2)
+    {
+        for stream in &mut sheet.streams {
+            (stream.from, stream.to) = (first.from, first.to);
+        }
+    }
     ample(&mut sheet.cabinets);
     sheet
 }
