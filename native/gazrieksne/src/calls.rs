@@ -74,6 +74,33 @@ pub fn plan(
     }
 }
 
+/// `gz_bill`: the refusal; the answer is group, net, tax, total.
+pub fn bill(
+    sheet: &[u8],
+    plan: &[u16],
+    block_price: u64,
+    slot_price: u64,
+    tax_rate: u64,
+    lines: &mut [u64],
+    answer: &mut [u64; 4],
+) -> u64 {
+    // SAFETY: see the head of this file.
+    unsafe {
+        raw::gz_bill(
+            sheet.as_ptr(),
+            sheet.len(),
+            plan.as_ptr(),
+            plan.len(),
+            block_price,
+            slot_price,
+            tax_rate,
+            lines.as_mut_ptr(),
+            lines.len(),
+            answer,
+        )
+    }
+}
+
 /// `gz_tidy`: the refusal; the answer is group, length of the copy.
 pub fn tidy(sheet: &[u8], output: &mut [u8], answer: &mut [u64; 2]) -> u64 {
     // SAFETY: see the head of this file.

@@ -12,6 +12,15 @@ pub use refusal::{Group, Refusal};
 /// An output of so many bytes suffices for the tidy copy of any sheet.
 pub const LONGEST_COPY: usize = 11_438;
 
+/// The highest block price and the highest slot price of a tariff, in cents.
+pub const MAX_PRICE: u64 = 10_000;
+
+/// The highest tax rate of a tariff, in thousandths.
+pub const MAX_RATE: u64 = 1_000;
+
+/// So many places suffice for the lines of any bill.
+pub const MOST_LINES: usize = 408;
+
 /// The numbers of services, cabinets, streams and barred pairs of an accepted sheet.
 #[derive(Clone, Copy, Debug, PartialEq, Eq)]
 pub struct Counts {
@@ -25,6 +34,11 @@ impl Counts {
     /// The entries that each table of the planner needs.
     pub fn entries(&self) -> usize {
         self.cabinets << self.services
+    }
+
+    /// The lines of a bill: two for each cabinet but the root, and one for each service.
+    pub fn lines(&self) -> usize {
+        2 * (self.cabinets - 1) + self.services
     }
 }
 
@@ -60,6 +74,25 @@ pub struct Pair {
 pub struct Planned {
     pub cost: u64,
     pub count: u64,
+}
+
+/// What the carrier charges.
+#[derive(Clone, Copy, Debug, PartialEq, Eq)]
+pub struct Tariff {
+    /// Cents for each started block of 100 units of load, up to `MAX_PRICE`.
+    pub block_price: u64,
+    /// Cents for each unit of a service's demand, up to `MAX_PRICE`.
+    pub slot_price: u64,
+    /// Thousandths of the net, up to `MAX_RATE`.
+    pub tax_rate: u64,
+}
+
+/// The figures of a bill, in cents.
+#[derive(Clone, Copy, Debug, PartialEq, Eq)]
+pub struct Bill {
+    pub net: u64,
+    pub tax: u64,
+    pub total: u64,
 }
 
 /// Reads a sheet.
@@ -146,6 +179,36 @@ pub fn plan(
     let number = calls::plan(sheet, output, costs, choices, &mut answer);
     let [group, cost, count] = answer;
     Refusal::of(number, group, count).map_or(Ok(Planned { cost, count }), Err)
+}
+
+/// Makes the carrier's monthly bill of a plan. Its lines are written to the first places,
+/// `Counts::lines` of them: for each cabinet from 1 the link up and then down, the blocks that its
+/// load starts at the block price, framing included; then for each service its demand at the slot
+/// price. Places behind them stay as they are, and in a refusal all do. The net is the sum of the
+/// lines, the tax is the net's share to the nearest cent, a half upward, and the total is both.
+pub fn bill(
+    sheet: &[u8],
+    plan: &[u16],
+    tariff: Tariff,
+    lines: &mut [u64],
+) -> Result<Bill, Refusal> {
+    let Tariff {
+        block_price,
+        slot_price,
+        tax_rate,
+    } = tariff;
+    let mut answer = [0; 4];
+    let number = calls::bill(
+        sheet,
+        plan,
+        block_price,
+        slot_price,
+        tax_rate,
+        lines,
+        &mut answer,
+    );
+    let [group, net, tax, total] = answer;
+    Refusal::of(number, group, 0).map_or(Ok(Bill { net, tax, total }), Err)
 }
 
 /// Writes the tidy copy of a sheet to the first bytes of the output and gives its length. Bytes

@@ -44,6 +44,18 @@ unsafe extern "C" {
         choices_len: usize,
         answer: *mut [u64; 3],
     ) -> u64;
+    pub fn gz_bill(
+        sheet: *const u8,
+        sheet_len: usize,
+        plan: *const u16,
+        plan_len: usize,
+        block_price: u64,
+        slot_price: u64,
+        tax_rate: u64,
+        lines: *mut u64,
+        lines_len: usize,
+        answer: *mut [u64; 4],
+    ) -> u64;
     pub fn gz_tidy(
         sheet: *const u8,
         sheet_len: usize,

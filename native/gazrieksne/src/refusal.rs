@@ -60,6 +60,7 @@ impl Display for Refusal {
             19 => "a barred pair names no service or no cabinet",
             20 => "a service is on a cabinet that it is barred from",
             21 => "the output is too short for the sheet to be written",
+            22 => "a price or the tax rate is outside its limits, or there are too few places for the lines",
             _ => "an unknown refusal",
         })
     }

@@ -1,6 +1,6 @@
 //! The calls on the measured road M.
 
-use gazrieksne::{Cabinet, Counts, Group, Pair, Planned, Refusal, Stream};
+use gazrieksne::{Bill, Cabinet, Counts, Group, Pair, Planned, Refusal, Stream, Tariff};
 
 const M: [u16; 34] = [
     2, 3, 1, 16, 20, 62, 68, 0, 2, 2, 65535, 4, 5, 0, 0, 0, 0, 0, 3, 1, 6, 2, 6, 1, 0, 3, 2, 2, 1,
@@ -30,7 +30,7 @@ fn read_and_records() {
         pairs: 0,
     };
     assert_eq!(gazrieksne::read(&m()), Ok(counts));
-    assert_eq!(counts.entries(), 12);
+    assert_eq!((counts.entries(), counts.lines()), (12, 6));
     assert_eq!(gazrieksne::service(&m(), 1), Some(2));
     assert_eq!(gazrieksne::service(&m(), 2), None);
     let second = Cabinet {
@@ -186,6 +186,69 @@ fn tidy_copies_refused() {
     let refusal = gazrieksne::tidy(&sheet[1..], &mut []).unwrap_err();
     assert_eq!((refusal.number, refusal.group), (2, Group::SheetWriter));
     assert_eq!(output, [9; 77]);
+}
+
+/// The tariff of block price, slot price and tax rate.
+fn tariff([block_price, slot_price, tax_rate]: [u64; 3]) -> Tariff {
+    Tariff {
+        block_price,
+        slot_price,
+        tax_rate,
+    }
+}
+
+/// The stream of 3 is a load of 5, which starts a block on each link from 1 to 2. Of 58 cents 190
+/// thousandths are 11.02.
+#[test]
+fn bills() {
+    let mut lines = [9; 7];
+    let bill = gazrieksne::bill(&m(), &[1, 2], tariff([7, 11, 190]), &mut lines);
+    let right = Bill {
+        net: 58,
+        tax: 11,
+        total: 69,
+    };
+    assert_eq!((bill, lines), (Ok(right), [7, 0, 0, 7, 22, 22, 9]));
+    let limits = [
+        gazrieksne::MAX_PRICE,
+        gazrieksne::MAX_PRICE,
+        gazrieksne::MAX_RATE,
+    ];
+    let mut lines = [9; gazrieksne::MOST_LINES];
+    let bill = gazrieksne::bill(&m(), &[0, 1], tariff(limits), &mut lines);
+    let right = Bill {
+        net: 50_000,
+        tax: 50_000,
+        total: 100_000,
+    };
+    assert_eq!(bill, Ok(right));
+    assert_eq!(lines[..6], [0, 10_000, 0, 0, 20_000, 20_000]);
+    assert_eq!(lines[6..], [9; 402]);
+}
+
+/// 22 comes after the refusals of the sheet and of the plan, and no refusal writes a line.
+#[test]
+fn bills_refused() {
+    let refused = |sheet: &[u8], plan: &[u16], parts, places| {
+        let mut lines = vec![9; places];
+        let refusal = gazrieksne::bill(sheet, plan, tariff(parts), &mut lines).unwrap_err();
+        assert_eq!(lines, vec![9; places]);
+        refusal
+    };
+    let past = [[10_001, 0, 0], [0, 10_001, 0], [0, 0, 1_001], [u64::MAX; 3]];
+    for (parts, places) in past
+        .map(|parts| (parts, 6))
+        .into_iter()
+        .chain([([1; 3], 5)])
+    {
+        let refusal = refused(&m(), &[0, 1], parts, places);
+        assert_eq!((refusal.number, refusal.group), (22, Group::Lender));
+        assert!(refusal.to_string().contains("tax rate"));
+        let refusal = refused(&m(), &[2, 0], parts, places);
+        assert_eq!((refusal.number, refusal.group), (16, Group::PlanWriter));
+        let refusal = refused(&m()[..67], &[0, 1], parts, places);
+        assert_eq!((refusal.number, refusal.group), (3, Group::SheetWriter));
+    }
 }
 
 #[test]
