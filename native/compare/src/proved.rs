@@ -41,6 +41,25 @@ impl Subject for Proved {
         calls::plan(sheet, output, costs, choices, answer)
     }
 
+    fn bill(
+        &self,
+        sheet: &[u8],
+        plan: &[u16],
+        [block_price, slot_price, tax_rate]: [u64; 3],
+        lines: &mut [u64],
+        answer: &mut [u64; 4],
+    ) -> u64 {
+        calls::bill(
+            sheet,
+            plan,
+            block_price,
+            slot_price,
+            tax_rate,
+            lines,
+            answer,
+        )
+    }
+
     fn tidy(&self, sheet: &[u8], output: &mut [u8], answer: &mut [u64; 2]) -> u64 {
         calls::tidy(sheet, output, answer)
     }

@@ -3,6 +3,7 @@
 #![forbid(unsafe_code)]
 
 mod alike;
+mod bills;
 mod checks;
 mod figures;
 mod guarded;
@@ -17,6 +18,7 @@ pub use subject::Subject;
 pub use tally::Tally;
 
 use alike::Alike;
+use bills::Road;
 use second::hex::dump;
 use second::random::{Case, Random};
 
@@ -44,14 +46,29 @@ fn calls(
     reader::records(subject, &case.sheet, &right, random, tally)?;
     writer::tidy(subject, &alike, random, tally)?;
     writer::copy(subject, &alike, random, tally)?;
+    let road = Road {
+        alike: &alike,
+        records: &right,
+    };
     for plan in &case.plans {
         checks::check(subject, &alike, plan, random, tally)?;
+        bills::bills(subject, &road, plan, &case.tariffs, random, tally)?;
+    }
+    if let Some(plan) = billed_by_limits(case) {
+        bills::limits(subject, &road, plan, random, tally)?;
     }
     for &lent in &case.lent {
         planner::plan(subject, &alike, lent, random, tally)?;
     }
     figures::weigh(subject, random, tally)?;
     figures::bound(subject, random, tally)
+}
+
+/// The first plan of a case that is valid, or else the first.
+fn billed_by_limits(case: &Case) -> Option<&Vec<u16>> {
+    let mut plans = case.plans.iter();
+    let valid = plans.find(|plan| second::check(&case.sheet, plan).is_ok());
+    valid.or(case.plans.first())
 }
 
 /// The difference with the sheet in full.

@@ -21,6 +21,15 @@ pub trait Subject {
         choices: &mut [u16],
         answer: &mut [u64; 3],
     ) -> u64;
+    /// Tariff: block price, slot price, tax rate. Answer: group, net, tax, total.
+    fn bill(
+        &self,
+        sheet: &[u8],
+        plan: &[u16],
+        tariff: [u64; 3],
+        lines: &mut [u64],
+        answer: &mut [u64; 4],
+    ) -> u64;
     /// Answer: group, length of the copy.
     fn tidy(&self, sheet: &[u8], output: &mut [u8], answer: &mut [u64; 2]) -> u64;
     /// Answer: the figure.

@@ -1,6 +1,7 @@
 //! Counts of cases by kind, of calls by answer, of plans that were not the only cheapest, of what
-//! framing decided, and of the forms of sheets that were copied.
+//! framing decided, of the features of bills, and of the forms of sheets that were copied.
 
+use second::feature::Feature;
 use second::form::{Form, forms};
 use second::random::Case;
 use second::random::case::Origin;
@@ -16,6 +17,7 @@ pub struct Tally {
     tied_large: usize,
     framed_plans: usize,
     framed_roads: usize,
+    features: BTreeMap<Feature, usize>,
     forms: BTreeMap<Form, usize>,
 }
 
@@ -73,6 +75,18 @@ impl Tally {
         self.framed_roads
     }
 
+    /// Notes what was told apart about a bill that was compared.
+    pub fn bill(&mut self, features: &[Feature]) {
+        for &feature in features {
+            *self.features.entry(feature).or_default() += 1;
+        }
+    }
+
+    /// How many bills compared had this feature.
+    pub fn billed(&self, feature: Feature) -> usize {
+        self.features.get(&feature).copied().unwrap_or(0)
+    }
+
     /// Notes the form of a sheet whose tidy copy was compared.
     pub fn forms(&mut self, sheet: &[u8]) {
         for form in forms(sheet) {
@@ -114,6 +128,10 @@ impl Display for Tally {
         writeln!(f, "decided by framing:")?;
         writeln!(f, "{:9} plans refused", self.framed_plans)?;
         writeln!(f, "{:9} roads planned or refused", self.framed_roads)?;
+        writeln!(f, "bills, by feature:")?;
+        for (feature, times) in &self.features {
+            writeln!(f, "{times:9} {feature:?}")?;
+        }
         writeln!(f, "sheets copied, by form:")?;
         for (form, times) in &self.forms {
             writeln!(f, "{times:9} {form:?}")?;

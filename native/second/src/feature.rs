@@ -1,7 +1,6 @@
 //! What is told apart about the bills that are asked for.
 
-use crate::bill::{Tariff, bill_sheet, link_loads, number_of_lines, thousandths};
-use crate::check::check_sheet;
+use crate::bill::{Bill, Tariff, link_loads, number_of_lines, thousandths};
 use crate::limits::{TARIFF_PRICE, TAX_RATE};
 use crate::sheet::Sheet;
 
@@ -60,6 +59,11 @@ impl Feature {
         all.extend([true, false].map(Feature::Services));
         all
     }
+
+    /// Random cases have it. Only the largest prices on a long road come to more than 31 bits.
+    pub fn comes_by_chance(self) -> bool {
+        self != Feature::Above31Bits
+    }
 }
 
 /// Loads around a whole block, none, and the largest.
@@ -69,30 +73,33 @@ const RATES: [u64; 4] = [0, 1, 500, 1_000];
 /// What is left just below half a cent, at it and just above.
 const THOUSANDTHS: [u64; 3] = [499, 500, 501];
 
-/// The properties of the bill that is asked for with this plan and tariff, and so many places.
+/// The properties of a bill that is asked for with this plan and tariff, and so many places, by the
+/// answer that is right.
 pub fn features(
     sheet: &Result<Sheet, u64>,
     plan: &[u16],
     tariff: Tariff,
     places: usize,
+    answer: Result<Bill, u64>,
 ) -> Vec<Feature> {
     let outside = causes(tariff);
     let Ok(sheet) = sheet else {
         let first = (!outside.is_empty()).then_some(Feature::ReaderFirst);
         return first.into_iter().collect();
     };
-    let short = places < number_of_lines(sheet);
-    if let Err(refusal) = check_sheet(sheet, plan) {
-        let tariff = (!outside.is_empty()).then_some(Feature::BeforeTariff(refusal));
-        let lines = short.then_some(Feature::BeforeLines(refusal));
-        return tariff.into_iter().chain(lines).collect();
-    }
-    let lines = short.then_some(Cause::Lines);
-    let causes: Vec<Cause> = outside.into_iter().chain(lines).collect();
-    match causes[..] {
-        [] => of_bill(sheet, plan, tariff),
-        [cause] => vec![Feature::Refused(cause)],
-        _ => vec![],
+    let lines = (places < number_of_lines(sheet)).then_some(Cause::Lines);
+    match answer {
+        Ok(bill) => of_bill(sheet, plan, tariff, bill),
+        Err(22) => {
+            let causes: Vec<Cause> = outside.into_iter().chain(lines).collect();
+            let alone = (causes.len() == 1).then(|| Feature::Refused(causes[0]));
+            alone.into_iter().collect()
+        }
+        Err(refusal) => {
+            let tariff = (!outside.is_empty()).then_some(Feature::BeforeTariff(refusal));
+            let lines = lines.map(|_| Feature::BeforeLines(refusal));
+            tariff.into_iter().chain(lines).collect()
+        }
     }
 }
 
@@ -108,11 +115,7 @@ fn causes(tariff: Tariff) -> Vec<Cause> {
 }
 
 /// The properties of a bill that is made.
-fn of_bill(sheet: &Sheet, plan: &[u16], tariff: Tariff) -> Vec<Feature> {
-    let mut lines = vec![0; number_of_lines(sheet)];
-    let Ok(bill) = bill_sheet(sheet, plan, tariff, &mut lines) else {
-        return vec![];
-    };
+fn of_bill(sheet: &Sheet, plan: &[u16], tariff: Tariff, bill: Bill) -> Vec<Feature> {
     let loads = link_loads(sheet, plan).concat();
     let mut features = vec![
         Feature::Links(!loads.is_empty()),

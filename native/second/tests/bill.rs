@@ -1,7 +1,7 @@
 //! The bill: the cases written down, its parts, and what holds of every bill of a random road.
 
 use second::bill::{Bill, Tariff, blocks, link_loads, number_of_lines, tax, thousandths};
-use second::billed::all;
+use second::billed::{Billed, all};
 use second::build::tight;
 use second::feature::{Feature, features};
 use second::framing::taken;
@@ -39,7 +39,16 @@ fn written_down() {
 /// Among them there is everything that a comparison must meet.
 #[test]
 fn every_feature_is_written_down() {
-    let of = |b: second::billed::Billed| features(&read(&b.sheet), &b.plan, b.tariff, b.places);
+    let of = |billed: Billed| {
+        let Billed {
+            plan,
+            tariff,
+            places,
+            ..
+        } = billed;
+        let answer = billed.answer.map(|(_, figures)| figures);
+        features(&read(&billed.sheet), &plan, tariff, places, answer)
+    };
     let met: Vec<Feature> = all().into_iter().flat_map(of).collect();
     for feature in Feature::all() {
         assert!(met.contains(&feature), "{feature:?}");

@@ -31,7 +31,8 @@ impl Faulty {
         }
     }
 
-    fn judge(&self, sheet: &Sheet, plan: &[u16]) -> (u64, u64) {
+    /// The refusal of a plan, and its cost.
+    pub fn judge(&self, sheet: &Sheet, plan: &[u16]) -> (u64, u64) {
         let (r, s) = (sheet.services.len(), sheet.cabinets.len());
         let long = plan.len() > r && !self.has(Fault::CheckLongPlan);
         let short = plan.len() < r && !self.has(Fault::CheckShortPlan);

@@ -3,6 +3,7 @@
 #![forbid(unsafe_code)]
 
 mod bars;
+mod bill;
 mod check;
 mod copy;
 mod fault;
@@ -10,8 +11,10 @@ mod figures;
 mod fourth;
 mod framing;
 mod keys;
+mod lines;
 mod link;
 mod loads;
+mod net;
 mod planner;
 mod reader;
 mod rows;
@@ -24,7 +27,7 @@ pub use subject::Faulty;
 
 use differ::{Tally, compare, compare_bounds};
 use second::random::{Random, Size, case};
-use second::{barred, copies, framed, tied};
+use second::{barred, billed, copies, framed, tied};
 
 /// The sizes of the random roads.
 const SIZE: Size = Size {
@@ -33,7 +36,7 @@ const SIZE: Size = Size {
 };
 
 /// Compares up to so many random cases, then those written down for barred pairs, for ties, for
-/// framing and for tidy copies, then the bound for all numbers around the limits. Gives the first
+/// framing, for bills and for tidy copies, then the bound for all numbers around the limits. Gives the first
 /// case that shows a difference, and the first line of what it shows.
 pub fn first_difference(fault: Option<Fault>, cases: usize, seed: u64) -> Option<(String, String)> {
     let subject = Faulty(fault);
@@ -48,8 +51,10 @@ pub fn first_difference(fault: Option<Fault>, cases: usize, seed: u64) -> Option
     let barred = barred::all().into_iter().map(|d| (d.name, d.case()));
     let tied = tied::all().into_iter().map(|t| (t.name, t.case()));
     let framed = framed::all().into_iter().map(|f| (f.name, f.case()));
+    let billed = billed::all().into_iter().map(|b| (b.name, b.case()));
     let copies = copies::all().into_iter().map(|c| (c.name, c.case()));
-    for (name, case) in barred.chain(tied).chain(framed).chain(copies) {
+    let written_down = barred.chain(tied).chain(framed).chain(billed).chain(copies);
+    for (name, case) in written_down {
         if let Err(what) = compare(&subject, &case, &mut random, &mut tally) {
             return Some((name.to_string(), first_line(&what)));
         }

@@ -80,7 +80,7 @@ impl Faulty {
     }
 
     /// The streams on each link, each on so many links of its path at most.
-    fn runs(&self, sheet: &Sheet, plan: &[u16], links: usize) -> Vec<Runs> {
+    pub fn runs(&self, sheet: &Sheet, plan: &[u16], links: usize) -> Vec<Runs> {
         let mut runs = vec![Runs::default(); sheet.cabinets.len()];
         let streams = match self.has(Fault::CheckPairAsOne) {
             true => one_a_pair(&sheet.streams),

@@ -125,6 +125,24 @@ impl Subject for Faulty {
         refusal
     }
 
+    fn bill(
+        &self,
+        sheet: &[u8],
+        plan: &[u16],
+        tariff: [u64; 3],
+        lines: &mut [u64],
+        answer: &mut [u64; 4],
+    ) -> u64 {
+        let (refusal, values) = self.bill_answer(sheet, plan, tariff, lines);
+        let written = match self.0 {
+            Some(Fault::BillAnswerKept) if refusal != 0 => 0,
+            Some(Fault::BillFiguresKept) if values[1] == 0 => 1,
+            _ => 4,
+        };
+        answer[..written].copy_from_slice(&values[..written]);
+        refusal
+    }
+
     fn tidy(&self, sheet: &[u8], output: &mut [u8], answer: &mut [u64; 2]) -> u64 {
         let (refusal, values) = self.tidy_answer(sheet, output);
         if refusal == 0 || !self.has(Fault::TidyAnswerKept) {

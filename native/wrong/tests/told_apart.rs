@@ -1,8 +1,8 @@
 //! Every fault is seen within some thousand cases, and none where there is none.
 
 use differ::{Tally, compare, compare_bounds};
-use second::framed;
-use second::random::Random;
+use second::random::{Case, Random};
+use second::{billed, framed};
 use wrong::{Fault, Faulty, first_difference};
 
 #[test]
@@ -32,18 +32,30 @@ fn every_fault_of_the_bound_is_seen_by_the_bounds_alone() {
     assert!(seen >= 10);
 }
 
-#[test]
-fn every_fault_of_framing_is_seen_by_the_roads_written_down_for_it() {
+/// How many faults there are whose sentence starts so; each must be seen by one of these cases.
+fn seen_by(cases: &[Case], start: &str) -> usize {
     let mut seen = 0;
     for &fault in Fault::ALL {
-        if fault.sentence().starts_with("framing in") {
+        if fault.sentence().starts_with(start) {
             let (mut random, mut tally) = (Random::new(7), Tally::default());
             let subject = Faulty(Some(fault));
-            let mut cases = framed::all().into_iter().map(|road| road.case());
-            let differs = cases.any(|c| compare(&subject, &c, &mut random, &mut tally).is_err());
+            let mut cases = cases.iter();
+            let differs = cases.any(|c| compare(&subject, c, &mut random, &mut tally).is_err());
             assert!(differs, "not seen: {}", fault.sentence());
             seen += 1;
         }
     }
-    assert!(seen >= 25);
+    seen
+}
+
+#[test]
+fn every_fault_of_framing_is_seen_by_the_roads_written_down_for_it() {
+    let cases: Vec<Case> = framed::all().iter().map(|road| road.case()).collect();
+    assert!(seen_by(&cases, "framing in") >= 25);
+}
+
+#[test]
+fn every_fault_of_the_bill_is_seen_by_the_bills_written_down() {
+    let cases: Vec<Case> = billed::all().iter().map(|billed| billed.case()).collect();
+    assert!(seen_by(&cases, "bill:") >= 100);
 }

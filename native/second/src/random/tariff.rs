@@ -2,6 +2,7 @@
 
 use super::Random;
 use crate::bill::{Tariff, blocks, link_loads, thousandths};
+use crate::check::check_sheet;
 use crate::limits::{TARIFF_PRICE, TAX_RATE};
 use crate::sheet::Sheet;
 
@@ -44,9 +45,10 @@ pub fn outside(random: &mut Random) -> Tariff {
     }))
 }
 
-/// A tariff within its limits by which the tax of a plan leaves 499, 500 or 501 thousandths of a
-/// cent, if one is found.
+/// A tariff within its limits by which the tax of a valid plan leaves 499, 500 or 501 thousandths of
+/// a cent, if one is found.
 pub fn sharp(random: &mut Random, sheet: &Sheet, plan: &[u16]) -> Option<Tariff> {
+    check_sheet(sheet, plan).ok()?;
     let loads = link_loads(sheet, plan).concat();
     let started: u64 = loads.into_iter().map(blocks).sum();
     let demands: u64 = sheet.services.iter().map(|&demand| u64::from(demand)).sum();
