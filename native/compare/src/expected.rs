@@ -1,11 +1,14 @@
-//! What must have come up among enough random cases; a comparison without it proves little.
+//! What must have come up among the cases written down and among enough random ones; a comparison
+//! without it proves little.
 
 use crate::Options;
 use differ::Tally;
+use second::feature::Feature;
 use second::form::Form;
 
 /// So many random cases must have among them plans of which others cost as much, plans and roads
-/// that framing decides, every kind of answer of the writer, and sheets of every form.
+/// that framing decides, bills with every feature that chance gives, every kind of answer of the
+/// writer, and sheets of every form.
 const ENOUGH_CASES: usize = 1000;
 /// So many large roads must have among them some with such plans.
 const ENOUGH_LARGE: usize = 40;
@@ -17,8 +20,12 @@ const TIDY: [(&str, &[u64]); 3] = [
     ("was refused a copy", &[1, 2, 3, 4, 5, 6, 7, 8, 9, 18, 19]),
 ];
 
-/// What the random cases did not show, told by the tallies before and after them.
+/// What the cases written down or the random ones did not show, told by the tallies before and
+/// after the random ones.
 pub fn missing(options: &Options, before: &Tally, after: &Tally) -> Option<String> {
+    if let Some(feature) = unbilled(&Tally::default(), before, |_| true) {
+        return Some(format!("no bill written down has the feature {feature:?}"));
+    }
     if options.large >= ENOUGH_LARGE && after.tied_large() == before.tied_large() {
         return Some("no large road had two cheapest plans".to_string());
     }
@@ -34,7 +41,16 @@ pub fn missing(options: &Options, before: &Tally, after: &Tally) -> Option<Strin
     if after.framed_roads() == before.framed_roads() {
         return Some("no random road had an answer that framing decides".to_string());
     }
+    if let Some(feature) = unbilled(before, after, Feature::comes_by_chance) {
+        return Some(format!("no random bill had the feature {feature:?}"));
+    }
     copies(before, after)
+}
+
+/// The first of some features that no bill had between two tallies.
+fn unbilled(before: &Tally, after: &Tally, some: impl Fn(Feature) -> bool) -> Option<Feature> {
+    let mut all = Feature::all().into_iter().filter(|&feature| some(feature));
+    all.find(|&feature| before.billed(feature) == after.billed(feature))
 }
 
 /// What the copies of random sheets did not show.
@@ -61,14 +77,22 @@ mod tests {
     use super::*;
     use second::copies;
 
-    /// A tally after ties, what framing decides, these answers of the writer, and the copies of
-    /// these sheets.
-    fn tally(answers: &[u64], sheets: &[&str]) -> Tally {
+    /// A tally after bills with every feature.
+    fn written_down() -> Tally {
         let mut tally = Tally::default();
+        tally.bill(&Feature::all());
+        tally
+    }
+
+    /// The same after ties, what framing decides, more of these bills, these answers of the writer,
+    /// and the copies of these sheets.
+    fn tally(features: &[Feature], answers: &[u64], sheets: &[&str]) -> Tally {
+        let mut tally = written_down();
         tally.tie(false);
         tally.tie(true);
         tally.framed_plan();
         tally.framed_road();
+        tally.bill(features);
         for &answer in answers {
             tally.answer("tidy", answer);
         }
@@ -83,23 +107,23 @@ mod tests {
     /// Sheets that have every form together.
     const SHEETS: [&str; 3] = ["M as it is", "pairs twice", "none at all"];
 
-    fn since_nothing(after: &Tally) -> Option<String> {
-        missing(&Options::default(), &Tally::default(), after)
+    fn since_written_down(after: &Tally) -> Option<String> {
+        missing(&Options::default(), &written_down(), after)
     }
 
     #[test]
     fn nothing_is_missing() {
-        let after = tally(&[0, 21, 19], &SHEETS);
-        assert_eq!(since_nothing(&after), None);
+        let after = tally(&Feature::all(), &[0, 21, 19], &SHEETS);
+        assert_eq!(since_written_down(&after), None);
         let stale = missing(&Options::default(), &after, &after);
         assert!(stale.is_some());
     }
 
     #[test]
     fn ties() {
-        let after = Tally::default();
+        let after = written_down();
         let mut options = Options::default();
-        let missed = |options: &Options| missing(options, &Tally::default(), &after);
+        let missed = |options: &Options| missing(options, &written_down(), &after);
         assert!(missed(&options).is_some_and(|what| what.contains("large")));
         options.large = 39;
         assert!(missed(&options).is_some_and(|what| what.contains("random road")));
@@ -109,15 +133,15 @@ mod tests {
 
     #[test]
     fn framing() {
-        let mut after = Tally::default();
+        let mut after = written_down();
         after.tie(false);
         after.tie(true);
-        let missed = |after: &Tally| since_nothing(after).unwrap_or_default();
+        let missed = |after: &Tally| since_written_down(after).unwrap_or_default();
         assert!(missed(&after).contains("for framing alone"));
         after.framed_plan();
         assert!(missed(&after).contains("framing decides"));
         after.framed_road();
-        assert!(missed(&after).contains("copied"));
+        assert!(missed(&after).contains("random bill"));
         let before = after.clone();
         after.tie(false);
         after.tie(true);
@@ -127,15 +151,49 @@ mod tests {
         assert!(stale(&after).is_some_and(|what| what.contains("framing decides")));
     }
 
+    /// All features but one.
+    fn without(left_out: Feature) -> Vec<Feature> {
+        let mut features = Feature::all();
+        features.retain(|&feature| feature != left_out);
+        features
+    }
+
+    #[test]
+    fn features_of_random_bills() {
+        for feature in Feature::all() {
+            let after = tally(&without(feature), &[0, 21, 19], &SHEETS);
+            let missed = since_written_down(&after);
+            assert_eq!(missed.is_some(), feature.comes_by_chance(), "{feature:?}");
+        }
+    }
+
+    /// Every feature is asked of the cases written down, however few the random ones are.
+    #[test]
+    fn features_of_bills_written_down() {
+        let options = Options {
+            cases: 0,
+            large: 0,
+            ..Options::default()
+        };
+        for feature in Feature::all() {
+            let mut before = Tally::default();
+            before.bill(&without(feature));
+            let missed = missing(&options, &before, &before);
+            assert!(missed.is_some_and(|what| what.contains("written down")));
+        }
+        assert_eq!(missing(&options, &written_down(), &written_down()), None);
+    }
+
     #[test]
     fn answers_and_forms() {
+        let all = Feature::all();
         for answers in [&[21, 1][..], &[0, 1], &[0, 21]] {
-            assert!(since_nothing(&tally(answers, &SHEETS)).is_some());
+            assert!(since_written_down(&tally(&all, answers, &SHEETS)).is_some());
         }
         for left_out in SHEETS {
             let others = SHEETS.map(|name| if name == left_out { "" } else { name });
-            let after = tally(&[0, 21, 3], &others);
-            assert!(since_nothing(&after).is_some(), "without {left_out}");
+            let after = tally(&all, &[0, 21, 3], &others);
+            assert!(since_written_down(&after).is_some(), "without {left_out}");
         }
     }
 }

@@ -1,6 +1,7 @@
 //! The proved planner and the second one give the same answers, and every refusal is among them.
 
 use compare::{Options, run};
+use second::feature::Feature;
 
 #[test]
 fn no_difference_and_every_refusal() {
@@ -20,12 +21,18 @@ fn no_difference_and_every_refusal() {
     for refusal in (0..=12).chain([18, 19]) {
         assert!(tally.times("plan", refusal) > 0, "plan: {refusal}");
     }
+    for refusal in (0..=9).chain(13..=16).chain([18, 19, 20, 22]) {
+        assert!(tally.times("bill", refusal) > 0, "bill: {refusal}");
+    }
     for refusal in (0..=9).chain([18, 19, 21]) {
         assert!(tally.times("tidy", refusal) > 0, "tidy: {refusal}");
     }
     assert!(tally.tied() > 200, "{} plans tied", tally.tied());
     let framed = [tally.framed_plans(), tally.framed_roads()];
     assert!(framed.iter().all(|&times| times > 50), "{framed:?}");
+    for feature in Feature::all() {
+        assert!(tally.billed(feature) > 0, "{feature:?}");
+    }
     for found in [0, 1] {
         assert!(tally.times("barred", found) > 0, "barred: {found}");
     }
