@@ -1,8 +1,10 @@
 //! Times the proved planner beside the planner by rows in plain Rust, which leaves ties to the
-//! earlier split, in one run, and prints a Markdown table. `bench [RUNS]`: the median of so many
-//! runs of each, 7 by default.
+//! earlier split, in one run, and prints a Markdown table; then the check and the bill of a plan on
+//! the largest chain, in another. `bench [RUNS]`: the median of so many runs of each planner, 7 by
+//! default.
 #![forbid(unsafe_code)]
 
+mod plans;
 mod roads;
 mod timing;
 
@@ -41,4 +43,19 @@ fn main() {
         "Geometric mean of the ratios of star, chain and random tree: {:.2}",
         (product / rows).exp()
     );
+    println!();
+    of_a_plan();
+}
+
+/// Prints the times of check and bill.
+fn of_a_plan() {
+    let (sheet, plan) = roads::largest_chain();
+    let times = plans::both(&sheet, &plan);
+    println!(
+        "| call on the largest chain | least of {}, µs |",
+        plans::CALLS
+    );
+    println!("|---|---:|");
+    println!("| check | {:.1} |", times.check * 1e6);
+    println!("| bill | {:.1} |", times.bill * 1e6);
 }

@@ -1,7 +1,7 @@
 //! The roads that are timed.
 
 use second::build::tight;
-use second::limits::{AMOUNT, NO_PARENT};
+use second::limits::{AMOUNT, CABINETS, NO_PARENT, SERVICES, STREAMS};
 use second::random::Random;
 use second::{Cabinet, Pair, Sheet, Stream};
 
@@ -136,6 +136,30 @@ pub fn sheet(shape: Shape, services: usize, cabinets: usize) -> Vec<u8> {
             _ => vec![],
         },
     })
+}
+
+/// A chain of as many cabinets as there can be, with room for everything, and as many services, which
+/// are spread along it from end to end, and streams; and the plan that spreads them so.
+pub fn largest_chain() -> (Vec<u8>, Vec<u16>) {
+    let cabinet = |c: u16| match c {
+        0 => Cabinet::from_words([NO_PARENT, AMOUNT, 1, 0, 0, 0, 0]),
+        _ => Cabinet::from_words([c - 1, AMOUNT, 1, AMOUNT, 1, AMOUNT, 1]),
+    };
+    let r = SERVICES as u16;
+    let stream = |k: u16| Stream {
+        from: k % r,
+        to: (k + 1 + k / r % (r - 1)) % r,
+        demand: 1 + k % 50,
+    };
+    let sheet = Sheet {
+        services: (1..=r).collect(),
+        cabinets: (0..CABINETS as u16).map(cabinet).collect(),
+        streams: (0..STREAMS as u16).map(stream).collect(),
+        barred: vec![],
+    };
+    let last = CABINETS as u16 - 1;
+    let plan = (0..r).map(|service| service * last / (r - 1)).collect();
+    (tight(&sheet), plan)
 }
 
 /// About a quarter of all pairs.
