@@ -138,8 +138,8 @@ pub fn sheet(shape: Shape, services: usize, cabinets: usize) -> Vec<u8> {
     })
 }
 
-/// A chain of as many cabinets as there can be, with room for everything, and as many services, which
-/// are spread along it from end to end, and streams; and the plan that spreads them so.
+/// A chain of as many cabinets as there can be, with room for everything, and as many services and
+/// streams; and a plan that spreads the services along it from end to end.
 pub fn largest_chain() -> (Vec<u8>, Vec<u16>) {
     let cabinet = |c: u16| match c {
         0 => Cabinet::from_words([NO_PARENT, AMOUNT, 1, 0, 0, 0, 0]),

@@ -12,6 +12,11 @@ use second::random::road::{Kind, of_kind, road};
 use second::random::{Random, Size, case, tariff};
 use second::{Sheet, bill, check, group, read};
 
+const SIZE: Size = Size {
+    services: 4,
+    cabinets: 6,
+};
+
 #[test]
 fn limits() {
     assert_eq!((TARIFF_PRICE, TAX_RATE, MOST_LINES), (10_000, 1_000, 408));
@@ -95,12 +100,8 @@ fn load(sheet: &Sheet, plan: &[u16], c: usize, up: bool) -> u64 {
 #[test]
 fn loads_by_what_is_under_a_link() {
     let mut random = Random::new(9);
-    let size = Size {
-        services: 5,
-        cabinets: 9,
-    };
     for _ in 0..2_000 {
-        let (kind, sheet) = road(&mut random, size);
+        let (kind, sheet) = road(&mut random, SIZE);
         let s = sheet.cabinets.len();
         let place = |_| random.below(s) as u16;
         let plan: Vec<u16> = sheet.services.iter().map(place).collect();
@@ -116,13 +117,9 @@ fn loads_by_what_is_under_a_link() {
 #[test]
 fn random_cases() {
     let mut random = Random::new(12);
-    let size = Size {
-        services: 4,
-        cabinets: 6,
-    };
     let mut made = 0;
     for _ in 0..1_500 {
-        let case = case(&mut random, size);
+        let case = case(&mut random, SIZE);
         for plan in &case.plans {
             let tariff = tariff::within(&mut random);
             let mut lines = [u64::MAX; MOST_LINES];
@@ -173,17 +170,13 @@ fn sharp_tariffs() {
     assert!(left.iter().all(|&times| times > 30), "{left:?}");
 }
 
-/// Roads made for blocks have every load that is told apart on their links, in plans that are valid.
+/// Roads made for blocks have every load that is told apart on their links, in valid plans.
 #[test]
 fn loads_of_roads_made_for_blocks() {
     let mut random = Random::new(4);
-    let size = Size {
-        services: 4,
-        cabinets: 6,
-    };
     let mut loads = vec![];
     for _ in 0..200 {
-        let sheet = of_kind(&mut random, Kind::Blocks, size);
+        let sheet = of_kind(&mut random, Kind::Blocks, SIZE);
         let place = |_| random.below(sheet.cabinets.len()) as u16;
         let plan: Vec<u16> = sheet.services.iter().map(place).collect();
         if check(&tight(&sheet), &plan).is_ok() {

@@ -5,13 +5,13 @@ use crate::limits::{CABINETS, SERVICES};
 use crate::measured::m_records;
 
 pub fn all() -> Vec<Billed> {
-    let all = [m(), along_paths(), few_lines(), longest(), star()];
+    let all = [m(), few_lines(), longest(), star()];
     all.into_iter().flatten().collect()
 }
 
-/// M at 7 cents a block, 11 cents a unit of demand and a tax of 190 thousandths. The lines are 1 up,
-/// 1 down, 2 up, 2 down, and 22 cents for either service. The stream of 3 is a load of 5 on each
-/// link between the two. The tax comes to 9.69 of 51 cents, 11.02 of 58 and 8.36 of 44.
+/// M at 7 cents a block, 11 cents a unit of demand and a tax of 190 thousandths. The lines are 1
+/// up, 1 down, 2 up, 2 down, and 22 cents for either service. The stream of 3 is a load of 5 on
+/// each link between the two. The tax comes to 9.69 of 51 cents, 11.02 of 58 and 8.36 of 44.
 fn m() -> Vec<Billed> {
     let bill = |name, plan: [u16; 2], links: [u64; 4], figures| {
         let lines = [&links[..], &[22, 22]].concat();
@@ -24,76 +24,6 @@ fn m() -> Vec<Billed> {
         bill("M, up from 1", [1, 0], [7, 0, 0, 0], [51, 10, 61]),
         bill("M, from 1 to 2", [1, 2], [7, 0, 0, 7], [58, 11, 69]),
         bill("M, on the root", [0, 0], [0; 4], [44, 8, 52]),
-    ]
-}
-
-/// Paths of several links, at 10 cents a block, 1 cent a unit of demand and no tax. A stream of 98
-/// is a load of 100, one of 99 a load of 101, one of 97 a load of 99, and one of 48 a load of 50.
-fn along_paths() -> Vec<Billed> {
-    let bill = |name, sheet, plan: &[u16], lines: &[u64], net| {
-        Billed::made(name, sheet, plan, [10, 1, 0], lines, [net, 0, net])
-    };
-    let chain = road(&[1, 2], &[0, 1, 2], &[[0, 1, 98]]);
-    let legs = road(&[1, 2], &[0, 0, 1, 2], &[[0, 1, 99], [1, 0, 97]]);
-    let shared = road(&[1, 2, 3], &[0, 1], &[[0, 2, 48], [0, 1, 48], [2, 1, 1]]);
-    vec![
-        bill(
-            "up a chain",
-            &chain,
-            &[3, 0],
-            &[10, 0, 10, 0, 10, 0, 1, 2],
-            33,
-        ),
-        bill(
-            "down a chain",
-            &chain,
-            &[0, 3],
-            &[0, 10, 0, 10, 0, 10, 1, 2],
-            33,
-        ),
-        bill(
-            "down its end",
-            &chain,
-            &[1, 3],
-            &[0, 0, 0, 10, 0, 10, 1, 2],
-            23,
-        ),
-        bill(
-            "up its middle",
-            &chain,
-            &[2, 1],
-            &[0, 0, 10, 0, 0, 0, 1, 2],
-            13,
-        ),
-        bill(
-            "legs 1, 3 and 2, 4",
-            &legs,
-            &[3, 4],
-            &[20, 10, 10, 20, 20, 10, 10, 20, 1, 2],
-            123,
-        ),
-        bill(
-            "legs 2, 4 and 1, 3",
-            &legs,
-            &[4, 3],
-            &[10, 20, 20, 10, 10, 20, 20, 10, 1, 2],
-            123,
-        ),
-        bill(
-            "a leg alone",
-            &legs,
-            &[1, 3],
-            &[0, 0, 0, 0, 10, 20, 0, 0, 1, 2],
-            33,
-        ),
-        // 50 and 50 run down to 1, 50 of them on to 2, and 3 up from 2.
-        bill(
-            "a shared link",
-            &shared,
-            &[0, 1, 2],
-            &[0, 10, 10, 10, 1, 2, 3],
-            36,
-        ),
     ]
 }
 
@@ -148,8 +78,8 @@ fn longest() -> Vec<Billed> {
     ]
 }
 
-/// A star of 200 cabinets: service i is on 190 + i and sends 98 + 100 × i to the next one, the last
-/// to the first, which starts i + 1 blocks up from the one and down to the other. At 2 cents a
+/// A star of 200 cabinets: service i is on 190 + i and sends 98 + 100 × i to the next one, the
+/// last to the first, which starts i + 1 blocks up from the one and down to the other. At 2 cents a
 /// block either way makes 110 cents, and at 3 cents a unit the services make 30. The tax of 25
 /// thousandths is 6.25.
 fn star() -> Vec<Billed> {

@@ -53,8 +53,8 @@ fn up() -> Vec<Billed> {
     ]
 }
 
-/// Each direction starts blocks of its own: loads of 62 and 62 are two blocks, as 124 is, but those
-/// of 25 and 25 are two as well.
+/// Each direction starts blocks of its own: loads of 25 up and 25 down are two blocks, though 50
+/// one way would be one.
 fn both_ways() -> Vec<Billed> {
     let road = |name, [down, up]: [u16; 2], links, figures| {
         line(name, &[[0, 1, down], [1, 0, up]], links, figures)

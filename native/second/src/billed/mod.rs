@@ -2,6 +2,7 @@
 
 mod lines;
 mod loads;
+mod paths;
 mod refused;
 mod tax;
 
@@ -25,8 +26,8 @@ pub struct Billed {
 }
 
 impl Billed {
-    /// A bill of these lines with this net, tax and total, for block price, slot price and tax rate.
-    /// Just enough places are lent.
+    /// A bill of these lines with this net, tax and total, for block price, slot price and tax
+    /// rate. Just enough places are lent.
     fn made(
         name: &'static str,
         sheet: &Sheet,
@@ -88,6 +89,7 @@ fn road(services: &[u16], parents: &[u16], words: &[[u16; 3]]) -> Sheet {
 /// All of them.
 pub fn all() -> Vec<Billed> {
     let mut all = loads::all();
+    all.extend(paths::all());
     all.extend(lines::all());
     all.extend(tax::all());
     all.extend(refused::all());

@@ -99,8 +99,8 @@ fn places() -> Vec<Billed> {
     ]
 }
 
-/// Every refusal of the check comes before 22, whether that is for the tariff, for the places or for
-/// both.
+/// Every refusal of the check comes before 22, whether that is for the tariff, for the places or
+/// for both.
 fn check_first() -> Vec<Billed> {
     let before = |name, pairs: &[[u16; 2]], plan: &[u16], refusal| {
         let sheet = tight(&m_barred(pairs));

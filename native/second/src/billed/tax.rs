@@ -57,8 +57,8 @@ fn halves() -> Vec<Billed> {
     ]
 }
 
-/// 9,999 × 9,999 is 99,980,001, and 999 thousandths of it leave 999 of a cent. 7 × 9,287 is 65,009,
-/// and 11 thousandths of it are 715.099.
+/// 9,999 × 9,999 is 99,980,001, and 999 thousandths of it leave 999 of a cent. 7 × 9,287 is
+/// 65,009, and 11 thousandths of it are 715.099.
 fn large() -> Vec<Billed> {
     let square = |name, rate, tax, total| {
         let figures = [99_980_001, tax, total];
@@ -74,8 +74,8 @@ fn large() -> Vec<Billed> {
     ]
 }
 
-/// Tax is taken of the net, not of each line: two lines of 1 cent at 500 are 1 cent of tax, three at
-/// 400 are 1.2. With a stream of 1 down a link there is one block more.
+/// Tax is taken of the net, not of each line: two lines of 1 cent at 500 are 1 cent of tax, three
+/// at 400 are 1.2. With a stream of 1 down a link there is one block more.
 fn several_lines() -> Vec<Billed> {
     let bill = |name, services: &[u16], rate, figures: [u64; 3]| {
         let sheet = road(services, &[], &[]);
@@ -91,7 +91,7 @@ fn several_lines() -> Vec<Billed> {
         bill("two lines at 500", &[1; 2], 500, [2, 1, 3]),
         bill("three lines at 400", &[1; 3], 400, [3, 1, 4]),
         bill("ten lines at 50", &[1; 10], 50, [10, 1, 11]),
-        // 499, 501 and 1,500 thousandths.
+        // 501, 2,499 and 1,500 thousandths.
         linked("three lines at 167", 167, [3, 1, 4]),
         linked("three lines at 833", 833, [3, 2, 5]),
         linked("a link's line at 500", 500, [3, 2, 5]),

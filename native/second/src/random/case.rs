@@ -1,4 +1,5 @@
-//! A case: a sheet, plans to check and to bill on it, and the lengths of what is lent to the planner.
+//! A case: a sheet, plans to check and to bill on it, and the lengths of what is lent to the
+//! planner.
 
 use super::Random;
 use super::damage::{Damage, damage};

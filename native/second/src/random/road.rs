@@ -273,7 +273,7 @@ fn crowd(random: &mut Random) -> Sheet {
     sheet
 }
 
-/// Demands that with their framing are about whole blocks, parts of one, or all that a link carries.
+/// Demands that with their framing are about a whole block, half of one, or all that a link carries.
 const BLOCK_DEMANDS: [u16; 12] = [0, 48, 49, 49, 97, 97, 98, 98, 99, 99, 9_998, 9_998];
 
 /// Two services or more on roomy cabinets, and streams of such demands, every other time all of one

@@ -18,7 +18,7 @@ fn up_to(random: &mut Random, limit: u64) -> u64 {
     random.pick(&[small, any, any, end])
 }
 
-/// A number above a limit: next to it, or one that fewer bits or a sign would take for a smaller one.
+/// A number above a limit: next to it, or one that fewer bits or a sign would make a smaller one.
 fn above(random: &mut Random, limit: u64) -> u64 {
     let low = random.between(0, limit as usize) as u64;
     let any = random.next().max(limit + 1);
@@ -45,8 +45,8 @@ pub fn outside(random: &mut Random) -> Tariff {
     }))
 }
 
-/// A tariff within its limits by which the tax of a valid plan leaves 499, 500 or 501 thousandths of
-/// a cent, if one is found.
+/// A tariff within its limits by which the tax of a valid plan leaves 499, 500 or 501 thousandths
+/// of a cent, if one is found.
 pub fn sharp(random: &mut Random, sheet: &Sheet, plan: &[u16]) -> Option<Tariff> {
     check_sheet(sheet, plan).ok()?;
     let loads = link_loads(sheet, plan).concat();
