@@ -57,5 +57,5 @@ fn every_fault_of_framing_is_seen_by_the_roads_written_down_for_it() {
 #[test]
 fn every_fault_of_the_bill_is_seen_by_the_bills_written_down() {
     let cases: Vec<Case> = billed::all().iter().map(|billed| billed.case()).collect();
-    assert!(seen_by(&cases, "bill:") >= 100);
+    assert!(seen_by(&cases, "bill:") >= 105);
 }
