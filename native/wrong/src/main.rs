@@ -7,7 +7,7 @@ use wrong::{Fault, first_difference};
 fn main() -> ExitCode {
     let mut unseen = 0;
     for &fault in Fault::ALL {
-        match first_difference(Some(fault), 20_000, 1) {
+        match first_difference(Some(fault), 5_000, 1) {
             Some((case, line)) => {
                 println!("{}\n    case {case}: {line}", fault.sentence());
             }
