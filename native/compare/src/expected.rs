@@ -7,9 +7,11 @@ use second::feature::Feature;
 use second::form::Form;
 
 /// So many random cases must have among them plans of which others cost as much, plans and roads
-/// that framing decides, bills with every feature that chance gives, every kind of answer of the
-/// writer, and sheets of every form.
+/// that framing decides, every kind of answer of the writer, and sheets of every form.
 const ENOUGH_CASES: usize = 1000;
+/// So many must have among them bills with every feature that chance gives; few roads have loads of
+/// about whole blocks.
+const ENOUGH_BILLS: usize = 2000;
 /// So many large roads must have among them some with such plans.
 const ENOUGH_LARGE: usize = 40;
 
@@ -41,7 +43,9 @@ pub fn missing(options: &Options, before: &Tally, after: &Tally) -> Option<Strin
     if after.framed_roads() == before.framed_roads() {
         return Some("no random road had an answer that framing decides".to_string());
     }
-    if let Some(feature) = unbilled(before, after, Feature::comes_by_chance) {
+    if options.cases >= ENOUGH_BILLS
+        && let Some(feature) = unbilled(before, after, Feature::comes_by_chance)
+    {
         return Some(format!("no random bill had the feature {feature:?}"));
     }
     copies(before, after)
@@ -164,6 +168,11 @@ mod tests {
             let after = tally(&without(feature), &[0, 21, 19], &SHEETS);
             let missed = since_written_down(&after);
             assert_eq!(missed.is_some(), feature.comes_by_chance(), "{feature:?}");
+            let few = Options {
+                cases: 1999,
+                ..Options::default()
+            };
+            assert_eq!(missing(&few, &written_down(), &after), None);
         }
     }
 

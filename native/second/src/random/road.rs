@@ -92,7 +92,7 @@ pub fn road(random: &mut Random, size: Size) -> (Kind, Sheet) {
     let kind = match random.below(400) {
         0 => Kind::Long,
         1..=100 => random.pick(&tied::KINDS),
-        101..=116 => Kind::Blocks,
+        101..=124 => Kind::Blocks,
         _ => random.pick(&KINDS),
     };
     (kind, of_kind(random, kind, size))
@@ -273,25 +273,28 @@ fn crowd(random: &mut Random) -> Sheet {
     sheet
 }
 
-/// Demands that with their framing are about a whole block, half of one, or all that a link carries.
-const BLOCK_DEMANDS: [u16; 12] = [0, 48, 49, 49, 97, 97, 98, 98, 99, 99, 9_998, 9_998];
+/// Demands that with their framing are about a whole block, or all that a link carries.
+const WHOLE: [u16; 4] = [97, 98, 99, 9_998];
+/// Demands of which two or three are about a whole block, or two.
+const PARTS: [u16; 6] = [0, 31, 48, 49, 98, 99];
 
-/// Two services or more on roomy cabinets, and streams of such demands, every other time all of one
-/// pair.
+/// Two services or more on roomy cabinets, and a few streams of whole blocks, or once in three times
+/// several of one pair that make up blocks together.
 fn blocks(random: &mut Random, size: Size) -> Sheet {
     let (r, s) = size.draw(random);
     let (r, s) = (r.max(size.services.min(2)), s.max(size.cabinets.min(2)));
     let mut sheet = of_numbers(random, r, s, Scale::Small);
-    let q = random.pick(&[1, 1, 2, 3]);
+    let together = random.once_in(3);
+    let q = random.pick(if together { &[2, 2, 3] } else { &[1, 2, 3] });
     sheet.streams = some_streams(random, r, q, Scale::Small);
     for stream in &mut sheet.streams {
-        stream.demand = random.pick(&BLOCK_DEMANDS);
+        stream.demand = random.pick(if together { &PARTS[..] } else { &WHOLE });
     }
-    if let Some(&first) = sheet.streams.first()
-        && random.once_in(2)
+    if let Some(&Stream { from, to, .. }) = sheet.streams.first()
+        && together
     {
         for stream in &mut sheet.streams {
-            (stream.from, stream.to) = (first.from, first.to);
+            (stream.from, stream.to) = (from, to);
         }
     }
     ample(&mut sheet.cabinets);
