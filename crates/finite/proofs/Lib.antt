@@ -1,4 +1,5 @@
--- The laws of sums and tests below a number, and of Booleans.
+-- The laws of sums and tests below a number, of Booleans, and of lists whose front is written over.
 pub mod Booleans
+pub mod Fronts
 pub mod Sums
 pub mod Tests

@@ -30,6 +30,7 @@ use Rattle.bill.proofs.Put.{front-at}
 use Rattle.bill.proofs.Figures.{line-link, line-service, lines-sum, net-low, rated-low, total-low}
 use Rattle.bill.proofs.Answers.{billable, made-iff, bill-answered}
 use Rattle.theorems.proofs.Copying as copying
+use Rattle.theorems.proofs.Lent.{front-written}
 use Rattle.theorems.specs.Promised.{Given, LinesLeft}
 
 -- ---- the answer, and the lines after it
@@ -57,7 +58,7 @@ module _ (bytes plan lines lines' : List ℕ) (t : Tariff) where
         billed = λ m x k q.
             let room : line-count I ≤ length lines = made-iff bytes plan t (length lines) m x k .0 (sym e ∙ q) .2 in
             let w = after a o m x k q in (
-              copying.front (line-count I) (places (line-count I) (line I π t)) lines lines' (sym (places-length (line-count I) (line I π t))) room w .1,
+              front-written (line-count I) (places (line-count I) (line I π t)) lines lines' (places-length (line-count I) (line I π t)) room w,
               λ n l. ap (λ (z : List ℕ). getD z n 0) w ∙ front-at (line-count I) (line I π t) lines n l,
             );
         refused = λ f q. o ∙ ap (λ (b : Billed). lines-after I π t b lines) q;

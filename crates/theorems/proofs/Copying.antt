@@ -1,11 +1,10 @@
 -- What the definitions of the tidy copy give: the work behind the theorems about it.
-use Prim.Native.Nat.{ℕ, _+_, _-_, _≤_, _<_}
-use native.Mathlib.Omega.{arith}
+use Prim.Native.Nat.{ℕ, _+_, _<_}
 use mathlib.Core.Logic.{_↔_, _⊎_, inl, inr, ⊎-elim}
 use mathlib.Core.Path.{_≡_, sym, ap, _∙_}
 use mathlib.Core.List.{List, _++_}
-use lib.ListN.{length, take, drop, getD, length-append, length-drop}
-use lib.Seq.{take-at, getD-append-add, getD-drop}
+use lib.ListN.{length, take, drop, getD}
+use lib.Seq.{take-at}
 use Rattle.sheet.specs.Refusals.{first-applying}
 use Rattle.sheet.specs.Reading.{reading}
 use Rattle.sheet.specs.Instance.{Instance, WellFormed, instance}
@@ -35,30 +34,14 @@ use Rattle.tidy.proofs.Copies.{same-copy}
 use Rattle.tidy.proofs.Fields.{tidy-sheet}
 use Rattle.tidy.proofs.Rising.{copy-rises}
 use Rattle.tidy.proofs.Lengths.{copied-length}
-use Rattle.theorems.specs.Promised.{Given, Written, SheetLeft}
+use Rattle.theorems.proofs.Lent.{front-written}
+use Rattle.theorems.specs.Promised.{Given, SheetLeft}
 
 -- ---- the answer, and the output after it
 
 pub either : (bytes : List ℕ) (n : ℕ) →
     ((m : ℕ) × (tidy-answer bytes n ≡ Bytes m)) ⊎ ((f : Refusal) × (tidy-answer bytes n ≡ Refused f) × Given tidy-numbers f)
 either bytes n = ⊎-elim inl (λ a. inr (a .0, a .1, record { grouped = a .2; listed = a .3 })) (tidy-answered bytes n)
-
--- numbers at the front of some others, and those behind them
-pub front : (n : ℕ) (sheet output output' : List ℕ) → n ≡ length sheet → n ≤ length output → output' ≡ sheet ++ drop n output
-    → (take n output' ≡ sheet) × Written n output output'
-front n sheet output output' e h o = (
-  ap (take n) o ∙ take-at sheet (drop n output) n (sym e),
-  record {
-    there = h;
-    length-stays = ap length o ∙ (let l : length (sheet ++ drop n output) ≡ length output = omega (arith, length-append sheet (drop n output), length-drop n output) in l);
-    rest = λ i k.
-        ap (λ (l : List ℕ). getD l i 0) o
-        ∙ ap (λ (m : ℕ). getD (sheet ++ drop n output) m 0) (let q : i ≡ length sheet + (i - n) = omega arith in q)
-        ∙ getD-append-add sheet (drop n output) (i - n) 0
-        ∙ getD-drop n output (i - n) 0
-        ∙ ap (λ (m : ℕ). getD output m 0) (let q : n + (i - n) ≡ i = omega arith in q);
-  },
-)
 
 pub left : (bytes output output' : List ℕ) (a : tidy.Written) →
     a ≡ tidy-answer bytes (length output) →
@@ -70,8 +53,8 @@ left bytes output output' a e o =
       written = λ n q.
           let w = tidy-written bytes (length output) n (sym e ∙ q) in
           let l : n ≡ length (tidied (instance bytes)) = w .1 ∙ sym (copied-length (instance bytes)) in
-          let f = front n (tidied (instance bytes)) output output' l (w .2) (o ∙ ap (λ (b : tidy.Written). output-after (tidied (instance bytes)) b output) q) in
-          (l, f .0, f .1);
+          let f : output' ≡ tidied (instance bytes) ++ drop n output = o ∙ ap (λ (b : tidy.Written). output-after (tidied (instance bytes)) b output) q in
+          (l, ap (take n) f ∙ take-at (tidied (instance bytes)) (drop n output) n (sym l), front-written n (tidied (instance bytes)) output output' (sym l) (w .2) f);
       refused = λ f q. o ∙ ap (λ (b : tidy.Written). output-after (tidied (instance bytes)) b output) q;
     }
 

@@ -1,4 +1,5 @@
 -- The page to open first is Demands; Cases has the worked cases.
+mod Lent
 mod Planning
 mod Copying
 mod Billing

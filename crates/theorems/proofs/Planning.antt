@@ -5,10 +5,11 @@ use mathlib.Core.Logic.{_↔_, _⊎_, inl, inr}
 use mathlib.Core.Path.{_≡_, refl, sym, ap, _∙_, subst}
 use mathlib.Core.Bool.{Bool, true, false, cond}
 use mathlib.Core.List.{List, [], _∷_, _++_}
-use lib.ListN.{length, getD, take, drop, replicate, length-append, length-replicate, getD-replicate, length-drop, List·getD-append}
-use lib.Seq.{take-at, getD-append-add, getD-drop}
+use lib.ListN.{length, getD, take, drop, replicate, length-replicate, getD-replicate, List·getD-append}
+use lib.Seq.{take-at}
 use borrow.Author.Tests.{eqb-true}
 use Rattle.finite.proofs.Booleans.{clash}
+use Rattle.finite.proofs.Fronts.{front-length, front-behind}
 use Rattle.subsets.specs.Costs.{Cost, none, some}
 use Rattle.subsets.specs.Order.{NotAfter}
 use Rattle.subsets.specs.Inner.Count.{triples, pairs}
@@ -38,6 +39,7 @@ use Rattle.planner.specs.Lent.{used, table-after, OutputAfter}
 use Rattle.planner.specs.declared.Planned.{Planned}
 use Rattle.planner.specs.declared.Planned.the-variants.{Plan, Refused}
 use Rattle.planner.proofs.Order.{enough-iff}
+use Rattle.theorems.proofs.Lent.{front-written}
 use Rattle.theorems.specs.Promised.{Given, Best, Cleared, Written, Left}
 
 -- ---- the number of a refusal
@@ -199,34 +201,22 @@ none-before bytes output output' costs choices k n e o π ρ feasible limits sam
 
 -- ---- the memory lent
 
--- a list whose first n places were written: the others stay
-stays : (n : ℕ) (part list : List ℕ) (i : ℕ) → length part ≡ n → n ≤ i → getD (part ++ drop n list) i 0 ≡ getD list i 0
-stays n part list i e l =
-    ap (λ (j : ℕ). getD (part ++ drop n list) j 0) (let q : i ≡ length part + (i - n) = omega arith in q)
-    ∙ getD-append-add part (drop n list) (i - n) 0
-    ∙ getD-drop n list (i - n) 0
-    ∙ ap (λ (j : ℕ). getD list j 0) (let q : n + (i - n) ≡ i = omega arith in q)
-
+-- a table whose first n entries are cleared
 cleared : (n : ℕ) (table : List ℕ) → n ≤ length table → Cleared n table (replicate n 0 ++ drop n table)
 cleared n table h =
-    let l : List ℕ = replicate n 0 in
-    let zeros : length l ≡ n = length-replicate n 0 in
+    let front : List ℕ = replicate n 0 in
+    let zeros : length front ≡ n = length-replicate n 0 in
     record {
       there = h;
-      length-stays = length-append l (drop n table) ∙ (let q : length l + length (drop n table) ≡ length table = omega (arith, length-drop n table) in q);
-      first = λ i l. List·getD-append (replicate n 0) (drop n table) 1 i (omega arith) ∙ getD-replicate n i 0 1 l;
-      rest = λ i l. stays n (replicate n 0) table i zeros l;
+      length-stays = front-length n front table zeros h;
+      first = λ i l. List·getD-append front (drop n table) 1 i (omega arith) ∙ getD-replicate n i 0 1 l;
+      rest = front-behind n front table zeros;
     }
 
 -- the output with a plan in it
 output-written : (I : Instance) (k n : ℕ) (output output' : List ℕ) → I .r ≤ length output → OutputAfter I (Plan k n) output output' → Written (I .r) output output'
 output-written I k n output output' h o =
-    let long = places-length (I .r) (first-plan I) in
-    record {
-      there = h;
-      length-stays = ap length o ∙ length-append (places (I .r) (first-plan I)) (drop (I .r) output) ∙ (let q : length (places (I .r) (first-plan I)) + length (drop (I .r) output) ≡ length output = omega (arith, length-drop (I .r) output) in q);
-      rest = λ i l. ap (λ (list : List ℕ). getD list i 0) o ∙ stays (I .r) (places (I .r) (first-plan I)) output i long l;
-    }
+    front-written (I .r) (places (I .r) (first-plan I)) output output' (places-length (I .r) (first-plan I)) h o
 
 -- the memory after a planning call
 pub left :
