@@ -248,10 +248,10 @@ module _ (I : Instance) (W : WellFormed I) where
       → seat (net I) (choice-at (ordered b (net I))) 0 (I .s) (full (I .r)) i ≡ first-plan I i
   seat-first-plan b hb k e = first-only _ (seat-plan b hb (choice-at (ordered b (net I))) (choice-wins (ordered b (net I)) (W .parents)) k e)
 
-  -- It is so from every table that agrees with that of the ordered net's own winners.
+  -- It is so from every table that agrees with that of the ordered net's own winners, but for the empty set.
   pub seat-first-table : (b : ℕ) → I .s ≤ b → (choice : ℕ → ℕ → ℕ)
-      → ((c x : ℕ) → 0 < c → c < I .s → x < 2 ^ I .r → choice c x ≡ choice-at (ordered b (net I)) c x)
+      → ((c x : ℕ) → 0 < c → c < I .s → 0 < x → x < 2 ^ I .r → choice c x ≡ choice-at (ordered b (net I)) c x)
       → (k : ℕ) → cheapest I ≡ some k → (i : ℕ) → i < I .r → seat (net I) choice 0 (I .s) (full (I .r)) i ≡ first-plan I i
   seat-first-table b hb choice same k e i h =
-      seat-ext (net I) (W .parents) choice (choice-at (ordered b (net I))) 0 i (λ d x z l q m. same d x z l m) 0 (I .s) (full (I .r)) (omega arith) (omega arith) (full-lt (I .r))
+      seat-ext (net I) (W .parents) choice (choice-at (ordered b (net I))) 0 i (λ d x z l q y m. same d x z l y m) 0 (I .s) (full (I .r)) (omega arith) (omega arith) (full-lt (I .r))
       ∙ seat-first-plan b hb k e i h

@@ -16,14 +16,13 @@ use Rattle.finite.proofs.Sums.{sum-ext, sum-add, sum-zero, sum-one, sum-le, onl
 use Rattle.subsets.specs.Inner.Net.{Falls}
 use Rattle.subsets.specs.Inner.Rows.{child}
 use Rattle.subsets.specs.Inner.Keys.{key-at, key-parts}
-use Rattle.subsets.specs.Inner.Folds.{plus, by-key}
+use Rattle.subsets.specs.Inner.Folds.{plus}
 use Rattle.subsets.specs.Inner.Rebuild as rebuild
 use Rattle.subsets.specs.Inner.Rebuild.{Source, rebuilt-row, rebuilt-key, rebuilt-choice, rebuilt-count}
-use Rattle.subsets.proofs.Folds.{best-sub}
 use Rattle.subsets.proofs.Rows.{child-parent}
 use Rattle.subsets.proofs.KeyRows as key-rows
 use Rattle.subsets.proofs.KeyRows.{key-alone, parts-ext}
-use Rattle.subsets.proofs.Rebuild.{Agree, row-agrees, choice-agrees, count-agrees, choice-le, key-join, key-pass}
+use Rattle.subsets.proofs.Rebuild.{Agree, row-agrees, entry-agrees, count-agrees, choice-le, entry-stays, key-join, key-pass}
 use Rattle.sheet.specs.Limits.{max-cabinets}
 use Rattle.rows.specs.Charges.{max-sets}
 use Rattle.rows.specs.Cabinets.{parent-of}
@@ -91,20 +90,15 @@ module _ (k : Records) (size : ℕ) (sums : List ℕ) (falls : Falls (parent-of 
       costs = λ x i. B .costs .rest d x (λ e. omega arith) i ∙ D .costs x i ∙ row-agrees size _ _ (agrees d (omega arith)) (k .cabinets) x i;
       chosen = λ c x i e j.
           B .kept c x (λ z. absurd (omega (arith, parent-is c z, eqb-true (parent-of k c) d (both-r (ltb d c) _ e)))) j
-          ∙ D .chosen c x i e j ∙ choice-agrees size _ _ (agrees d (omega arith)) c x e j;
+          ∙ D .chosen c x i e j ∙ entry-agrees size _ _ (agrees d (omega arith)) c x e j;
     }
 
     -- the row of p is built
     now-built : Built k size p sums t₁ u₁
     now-built = record {
       costs = λ x i. B .costs .row x i ∙ row-agrees size _ _ (agrees p (omega arith)) (k .cabinets) x i;
-      chosen = λ c x i e j. B .chosen c x i e j ∙ choice-agrees size _ _ (agrees p (omega arith)) c x e j;
+      chosen = λ c x i e j. B .chosen c x i e j ∙ entry-agrees size _ _ (agrees p (omega arith)) c x e j;
     }
-
-    -- the choice of a child is a subset
-    choice-sub : (c x : ℕ) → bitAnd (rebuilt-choice S c x) x ≡ rebuilt-choice S c x
-    unfolding rebuild.rebuilt-choice
-    choice-sub c x = best-sub (by-key (rebuilt-key S c) (S .key c) x) (rebuilt-row S c) (S .row c) (S .link c) x
 
     back : (c y : ℕ) → back-key k size u₁ c y ≡ key-parts base low-digits (tree k) (entry size u₁) c (k .cabinets) y
     unfolding rebuilds.back-key
@@ -133,7 +127,7 @@ module _ (k : Records) (size : ℕ) (sums : List ℕ) (falls : Falls (parent-of 
             let a : ℕ = rebuilt-choice S c x in
             let s : a ≤ x = choice-le S c x in
             let above : p < c = ltb-true p c (both-l (ltb p c) _ is) in
-            let chosen : bitAnd (entry size u₁ c x) x ≡ a = ap (λ (z : ℕ). bitAnd z x) (B .chosen c x (omega arith) is h) ∙ choice-sub c x in
+            let chosen : bitAnd (entry size u₁ c x) x ≡ a = ap (λ (z : ℕ). bitAnd z x) (B .chosen c x (omega arith) is h) ∙ entry-stays S size c x in
             key-join S c x is
             ∙ ap₂ plus (ih a (omega arith)) (key-stays c (x - a) above (omega arith) ∙ back c (x - a))
             ∙ sym (key-is _ _ (split c x e l h a chosen _) (split c x e l h a chosen _))
@@ -156,9 +150,9 @@ module _ (k : Records) (size : ℕ) (sums : List ℕ) (falls : Falls (parent-of 
   }
 
   -- what a row's rebuilding asks of the keys kept
-  pub from-kept : (rows p : ℕ) (t t₁ u u₁ g : List ℕ) (m : ℕ) → 0 < rows → rows * (2 * size) ≤ length g → From k size sums rows (suc p) t t₁ u u₁ g m → KeysKept k size p rows u₁ g
+  pub from-kept : (rows p : ℕ) (t t₁ u u₁ g : List ℕ) (m : ℕ) → 0 < rows → rows * (2 * size) ≤ length g → From k size sums rows (suc p) t t₁ u u₁ g m → KeysKept k size p rows rows u₁ g
   from-kept rows p t t₁ u u₁ g m z places F =
-      record { some-rows = z; places = places; keys = λ d x h l near i. F .keys d x (omega arith) l (omega arith) i }
+      record { some-rows = z; no-more = omega arith; places = places; keys = λ d x h l near i. F .keys d x (omega arith) l (omega arith) i }
 
   -- one count more
   more-counted : (p : ℕ) → p < k .cabinets → (f h : ℕ → ℕ) → ((d : ℕ) → p ≤ d → d < k .cabinets → f d ≡ h d)

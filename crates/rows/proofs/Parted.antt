@@ -4,13 +4,13 @@ use native.Mathlib.Nat.{mul-le-mul-right}
 use native.Mathlib.Omega.{arith}
 use mathlib.Core.Logic.{⊎-elim, _⊎_, inl, inr}
 use mathlib.Core.Path.{_≡_, refl, sym, ap, _∙_, subst}
-use mathlib.Core.Bool.{Bool, true, false}
+use mathlib.Core.Bool.{Bool, true, false, cond}
 use mathlib.Core.List.{List, _++_}
-use lib.Dec.{ltb}
-use lib.ListN.{length, getD, take, drop, replicate, length-drop, length-replicate, getD-replicate, List·getD-append}
-use lib.Seq.{getD-append-add, getD-take, getD-drop, length-take-le}
+use lib.Dec.{eqb, ltb}
+use lib.ListN.{length, getD, take, drop, set, replicate, length-drop, length-replicate, getD-replicate, List·getD-append}
+use lib.Seq.{getD-append-add, getD-take, getD-drop, getD-set-same, getD-set-other, length-take-le}
 use borrow.Rule.Slice.PartMut.{putMid, same-len-mid}
-use borrow.Author.Tests.{ltb-true, ltb-false}
+use borrow.Author.Tests.{eqb-true, eqb-false, ltb-true, ltb-false}
 use Rattle.rows.specs.Rebuilds.{entry, RowSet}
 
 -- ---- rows one after the other
@@ -93,6 +93,27 @@ module _ (size p : ℕ) (t : List ℕ) (fits : p * size + size ≤ length t) whe
     -- the same, with the row's size under another name
     pub row-put : {z : ℕ} → size ≡ z → (f : ℕ → ℕ) → ((x : ℕ) → x < z → getD ys x 0 ≡ f x) → RowSet z p f t (put-row size p t ys)
     row-put e f = subst (λ (z : ℕ). ((x : ℕ) → x < z → getD ys x 0 ≡ f x) → RowSet z p f t (put-row size p t ys)) e (put f)
+
+-- ---- a row whose first entry was written
+
+pub first-put : (size c : ℕ) (f : ℕ → ℕ) (u u₁ : List ℕ) (m : ℕ) → c * size < length u₁ → RowSet size c f u u₁
+    → RowSet size c (λ x. cond (eqb x 0) m (f x)) u (set u₁ (c * size) m)
+first-put size c f u u₁ m there R = record {
+  row = λ x h. go x h (eqb x 0) refl;
+  rest = λ d x n h. getD-set-other u₁ (c * size) (d * size + x) m 0 (apart d x n h) ∙ R .rest d x n h;
+}
+  where
+    go : (x : ℕ) → x < size → (b : Bool) → eqb x 0 ≡ b → entry size (set u₁ (c * size) m) c x ≡ cond b m (f x)
+    go x h true e =
+        let z : c * size + x ≡ c * size = omega (arith, eqb-true x 0 e) in
+        ap (λ (i : ℕ). getD (set u₁ (c * size) m) i 0) z ∙ getD-set-same u₁ (c * size) m 0 there
+    go x h false e =
+        let z : (x ≡ 0 → ⊥) = eqb-false x 0 e in
+        getD-set-other u₁ (c * size) (c * size + x) m 0 (λ q. omega arith) ∙ R .row x h
+
+    apart : (d x : ℕ) → (d ≡ c → ⊥) → x < size → d * size + x ≡ c * size → ⊥
+    apart d x n h q =
+        ⊎-elim (λ l. absurd (omega (arith, row-before size l))) (λ l. absurd (omega (arith, row-before size (let z : c < d = omega arith in z)))) (lt-or-ge d c)
 
 -- ---- a table whose first row was cleared
 

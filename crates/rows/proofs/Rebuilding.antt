@@ -19,10 +19,10 @@ use Rattle.subsets.specs.Inner.Net.{Falls}
 use Rattle.subsets.specs.Inner.Keys.{key-parts}
 use Rattle.subsets.specs.Inner.Folds.{earlier, plus, split-key, by-key, best-split, counted-below}
 use Rattle.subsets.specs.Inner.Rebuild as rebuild
-use Rattle.subsets.specs.Inner.Rebuild.{Source, best-join, rebuilt-row, rebuilt-key, rebuilt-choice, rebuilt-count}
+use Rattle.subsets.specs.Inner.Rebuild.{Source, best-join, rebuilt-row, rebuilt-key, rebuilt-choice, join-count, rebuilt-entry, rebuilt-count}
 use Rattle.subsets.proofs.Folds.{any-cost, best-ext, counted-ext}
 use Rattle.subsets.proofs.KeyRows.{key-at-ext, parts-ext}
-use Rattle.subsets.proofs.Rebuild.{Agree, row-agrees, key-agrees, choice-agrees, count-agrees, by-key-ext, choice-le, rebuilt-join, rebuilt-pass, key-join, key-pass, count-join, count-pass, rebuilt-start, key-start, count-start, rebuilt-key-le}
+use Rattle.subsets.proofs.Rebuild.{Agree, row-agrees, key-agrees, entry-agrees, count-agrees, by-key-ext, choice-le, rebuilt-join, rebuilt-pass, key-join, key-pass, count-join, count-pass, rebuilt-start, key-start, count-start, rebuilt-key-le}
 use Rattle.sheet.specs.Limits.{max-services, max-cabinets}
 use Rattle.rows.specs.Charges.{max-sets, own-figure, demanded}
 use Rattle.rows.specs.Keys.{base, low-digits, key-in, set-weight, times-key, tree}
@@ -66,13 +66,13 @@ row-again size p f g t t₁ t₂ R S = record { row = S .row; rest = λ d x n h.
 
 -- no more than a million splits are counted for one child
 pub count-le : (S : Source) (size k : ℕ) → size ≤ 1024 → k ≤ 200 → rebuilt-count S size k ≤ 200 * 1048576
-unfolding rebuild.rebuilt-count
+unfolding rebuild.rebuilt-count rebuild.join-count
 count-le S size k l h =
     omega (
       arith,
       mul-le-mul-right {m = k} {n = 200} 1048576 h,
-      sum-le k 1048576 (λ c. only (S .child c) (counted-below (rebuilt-row S c) (S .row c) (S .link c) size))
-          (λ c m. omega (arith, only-le (S .child c) (counted-below (rebuilt-row S c) (S .row c) (S .link c) size), counted-le (rebuilt-row S c) (S .row c) (S .link c) size l)),
+      sum-le k 1048576 (λ c. only (S .child c) (join-count S size c))
+          (λ c m. omega (arith, only-le (S .child c) (join-count S size c), counted-le (rebuilt-row S c) (S .row c) (S .link c) size l)),
     )
 
 -- keys set twice
@@ -113,7 +113,7 @@ pub back-same : (k : Records) (size : ℕ) (u u₁ : List ℕ) (c : ℕ) → Fal
 unfolding rebuilds.back-key
 back-same k size u u₁ c falls z same x h =
     parts-ext base low-digits (tree k) (entry size u) (entry size u₁) c (k .cabinets) x c (k .cabinets) x (λ v.
-    key-at-ext (tree k) v falls (entry size u) (entry size u₁) c (λ e y i j l m. same e y i l (omega arith)) c (k .cabinets) x (omega arith) (omega arith) (omega arith))
+    key-at-ext (tree k) v falls (entry size u) (entry size u₁) c (λ e y i j l o m. same e y i l (omega arith)) c (k .cabinets) x (omega arith) (omega arith) (omega arith))
 
 -- and they are small
 pub back-small : (k : Records) (size : ℕ) (u last prior weights : List ℕ) → Readable (tree k) size u last prior weights → (c x : ℕ) → c < k .cabinets
@@ -189,12 +189,13 @@ module _ (sums : List ℕ) {k : Records} {size p : ℕ} {t u : List ℕ} (R : Re
         not = is-false (S .child c) (λ e. ne (eqb-true (parent-of k c) p (both-r (ltb p c) _ e)))
 
     -- a child can be joined
-    pub joinable : q * (2 * size) + 2 * size ≤ length g → JoinRoom size p c q t₁ u₁ g₁
-    joinable room =
+    pub joinable : q * (2 * size) + 2 * size ≤ length g → k .services ≤ max-services → size ≡ 2 ^ k .services → JoinRoom size p c q t₁ u₁ g₁
+    joinable room few power =
         let a = row-room R p (R .cabinet) in
         let b = row-room R c l in
         record {
           sets = R .sets;
+          row-size = (k .services, few, power);
           row = omega (arith, C .costs-length, a .0);
           child = omega (arith, C .costs-length, b .0);
           choices = omega (arith, C .choices-length, b .1);
@@ -209,7 +210,7 @@ module _ (sums : List ℕ) {k : Records} {size p : ℕ} {t u : List ℕ} (R : Re
     pub children-join : parent-of k c ≡ p → (kid : ℕ → Key) → ((x : ℕ) → x < size → kid x ≡ S .key c x) → {t₂ u₂ g₂ : List ℕ} {m : ℕ}
         → JoinsChild (link-of k c) size p c q sums kid t₁ t₂ u₁ u₂ g₁ g₂ m → length t₂ ≡ length t₁ → length u₂ ≡ length u₁ → length g₂ ≡ length g₁
         → Children S size p q (c + 1) (k .cabinets) t t₂ u u₂ g g₂ (n + m)
-    unfolding rebuild.rebuilt-choice
+    unfolding rebuild.rebuilt-choice rebuild.rebuilt-entry rebuild.join-count
     children-join parent kid kids {t₂} {u₂} {g₂} {m} J lt lu lg = record {
       after = omega (arith, C .after);
       within = omega arith;
@@ -225,7 +226,7 @@ module _ (sums : List ℕ) {k : Records} {size p : ℕ} {t u : List ℕ} (R : Re
         chosen = λ b x i e h. go b x i e h (eqb b c) refl;
         kept = λ b x f h. J .choices .rest b x (λ e. omega (arith, f (subst (λ (z : ℕ). S .child z ≡ true) (sym e) is))) h ∙ B .kept b x (λ e. omega (arith, f e)) h;
         keys = keys-again size q _ _ g g₁ g₂ (B .keys) (record { row = λ x h. J .keys .row x h ∙ keyed x h ∙ sym (key-join S c x is); rest = J .keys .rest });
-        count = omega (arith, B .count, J .count, counted-ext (entry size t₁ p) (rebuilt-row S c) (entry size t₁ c) (entry size t c) (S .link c) (S .link c) size (B .costs .row) child-row (λ a h. refl), count-join S size c is);
+        count = omega (arith, B .count, joined-count, count-join S size c is);
       });
     }
       where
@@ -249,8 +250,13 @@ module _ (sums : List ℕ) {k : Records} {size p : ℕ} {t u : List ℕ} (R : Re
             let s : a ≤ x = choice-le S c x in
             ap (λ (b : Best). split-key (key-entry size g₁ q) kid x (b .chosen)) (same x h) ∙ ap₂ plus (B .keys .row a (omega arith)) (kids (x - a) (omega arith))
 
-        go : (b x : ℕ) → b < suc c → S .child b ≡ true → x < size → (s : Bool) → eqb b c ≡ s → entry size u₂ b x ≡ rebuilt-choice S b x
-        go b x i e h true y = subst (λ (z : ℕ). entry size u₂ z x ≡ rebuilt-choice S z x) (sym (eqb-true b c y)) (J .choices .row x h ∙ ap (λ (b : Best). b .chosen) (same x h))
+        joined-count : m ≡ join-count S size c
+        joined-count = J .count ∙ counted-ext (entry size t₁ p) (rebuilt-row S c) (entry size t₁ c) (entry size t c) (S .link c) (S .link c) size (B .costs .row) child-row (λ a h. refl)
+
+        go : (b x : ℕ) → b < suc c → S .child b ≡ true → x < size → (s : Bool) → eqb b c ≡ s → entry size u₂ b x ≡ rebuilt-entry S size b x
+        go b x i e h true y =
+            subst (λ (z : ℕ). entry size u₂ z x ≡ rebuilt-entry S size z x) (sym (eqb-true b c y))
+            (J .choices .row x h ∙ ap₂ (λ (n a : ℕ). cond (eqb x 0) n a) joined-count (ap (λ (b : Best). b .chosen) (same x h)))
         go b x i e h false y = let z = eqb-false b c y in J .choices .rest b x z h ∙ B .chosen b x (omega (arith, z)) e h
 
   -- no cabinet from c on is a child: all are passed over, and the row is rebuilt
@@ -267,7 +273,7 @@ module _ (sums : List ℕ) {k : Records} {size p : ℕ} {t u : List ℕ} (R : Re
 
 -- ---- the keys of a child that is to be joined, and of the row so far
 
-module _ (sums : List ℕ) {k : Records} {size p rows : ℕ} {t u g : List ℕ} (R : RebuildRoom k size p t u) (K : KeysKept k size p rows u g)
+module _ (sums : List ℕ) {k : Records} {size p rows near : ℕ} {t u g : List ℕ} (R : RebuildRoom k size p t u) (K : KeysKept k size p rows near u g)
     {last prior weights : List ℕ} (D : Readable (tree k) size u last prior weights)
     {t₁ u₁ g₁ : List ℕ} {n c : ℕ} (C : Children (source k size p sums t u) size p (p % rows) c (k .cabinets) t t₁ u u₁ g g₁ n) (l : c < k .cabinets) where
   -- reading back still relies on the same
@@ -285,17 +291,17 @@ module _ (sums : List ℕ) {k : Records} {size p rows : ℕ} {t u g : List ℕ} 
 
   -- kept or read back, the keys are those of the choices at the start
   pub fetched : (kid : List ℕ)
-      → ((x : ℕ) → x < size → key-in kid x ≡ cond (ltb (c - p) rows) (key-entry size g₁ (c % rows) x) (key-parts base low-digits (tree k) (entry size u₁) c (k .cabinets) x))
+      → ((x : ℕ) → x < size → key-in kid x ≡ cond (ltb (c - p) near) (key-entry size g₁ (c % rows) x) (key-parts base low-digits (tree k) (entry size u₁) c (k .cabinets) x))
       → (x : ℕ) → x < size → key-in kid x ≡ back-key k size u c x
   unfolding rebuilds.back-key
-  fetched kid h x m = h x m ∙ go (ltb (c - p) rows) refl
+  fetched kid h x m = h x m ∙ go (ltb (c - p) near) refl
     where
-      go : (b : Bool) → ltb (c - p) rows ≡ b → cond b (key-entry size g₁ (c % rows) x) (key-parts base low-digits (tree k) (entry size u₁) c (k .cabinets) x) ≡ back-key k size u c x
+      go : (b : Bool) → ltb (c - p) near ≡ b → cond b (key-entry size g₁ (c % rows) x) (key-parts base low-digits (tree k) (entry size u₁) c (k .cabinets) x) ≡ back-key k size u c x
       go true e =
-          let near : c - p < rows = ltb-true (c - p) rows e in
-          let apart : (c % rows ≡ p % rows → ⊥) = slot-apart rows p c (K .some-rows) (C .after) near in
+          let close : c - p < near = ltb-true (c - p) near e in
+          let apart : (c % rows ≡ p % rows → ⊥) = slot-apart rows p c (K .some-rows) (C .after) (omega (arith, K .no-more)) in
           key-is _ _ (C .rebuilds .keys .rest (c % rows) (2 * x) apart (omega arith)) (C .rebuilds .keys .rest (c % rows) (2 * x + 1) apart (omega arith))
-          ∙ K .keys c x (C .after) l near m
+          ∙ K .keys c x (C .after) l close m
       go false e = back-same k size u₁ u c (D .falls) (D .row-size) (λ d y z i j. under-stays sums R (p % rows) g C l d y i j) x m
 
   -- they can be added to those of the row
@@ -316,13 +322,15 @@ module _ (sums : List ℕ) {k : Records} {size p rows : ℕ} {t u g : List ℕ} 
 
 -- ---- the keys of p alone: they are written in a row of their own, so that all that are kept stay
 
-pub kept-alone : {k : Records} {size p rows : ℕ} {u g g₀ : List ℕ} {f : ℕ → Key} → KeysKept k size p rows u g → KeysSet size (p % rows) f g g₀ → length g₀ ≡ length g → KeysKept k size p rows u g₀
-kept-alone {k} {size} {p} {rows} K S e = record {
+pub kept-alone : {k : Records} {size p rows near : ℕ} {u g g₀ : List ℕ} {f : ℕ → Key}
+    → KeysKept k size p rows near u g → KeysSet size (p % rows) f g g₀ → length g₀ ≡ length g → KeysKept k size p rows near u g₀
+kept-alone {k} {size} {p} {rows} {near} K S e = record {
   some-rows = K .some-rows;
+  no-more = K .no-more;
   places = omega (arith, K .places);
-  keys = λ d x h l near m.
-      let apart : (d % rows ≡ p % rows → ⊥) = slot-apart rows p d (K .some-rows) h near in
-      key-is _ _ (S .rest (d % rows) (2 * x) apart (omega arith)) (S .rest (d % rows) (2 * x + 1) apart (omega arith)) ∙ K .keys d x h l near m;
+  keys = λ d x h l close m.
+      let apart : (d % rows ≡ p % rows → ⊥) = slot-apart rows p d (K .some-rows) h (omega (arith, K .no-more)) in
+      key-is _ _ (S .rest (d % rows) (2 * x) apart (omega arith)) (S .rest (d % rows) (2 * x + 1) apart (omega arith)) ∙ K .keys d x h l close m;
 }
 
 -- the keys rebuilt from there are those rebuilt from before
@@ -358,7 +366,7 @@ pub rebuilds-alone : {k : Records} {size p q n : ℕ} {sums t t₀ u : List ℕ}
     → Rebuilds (source k size p sums t₀ u) size p q n t₀ t₁ u u₁ g g₁ m → Rebuilds (source k size p sums t u) size p q n t t₁ u u₁ g g₁ m
 rebuilds-alone {k} {size} {p} {q} {n} {sums} {t} {t₀} {u} A {t₁} {u₁} {g} {g₁} {m} B = record {
   costs = row-again size p _ _ t t₀ t₁ (A .own) (record { row = λ x h. B .costs .row x h ∙ row-agrees size S₀ S₁ agree n x h; rest = B .costs .rest });
-  chosen = λ c x l e h. B .chosen c x l e h ∙ choice-agrees size S₀ S₁ agree c x e h;
+  chosen = λ c x l e h. B .chosen c x l e h ∙ entry-agrees size S₀ S₁ agree c x e h;
   kept = B .kept;
   keys = record { row = λ x h. B .keys .row x h ∙ key-agrees size S₀ S₁ agree n x h; rest = B .keys .rest };
   count = B .count ∙ count-agrees size S₀ S₁ agree n;

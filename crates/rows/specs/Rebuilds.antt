@@ -2,13 +2,13 @@
 -- t is a cost table, u a choice table and g a table of the keys of some rows; t', u' and g' are the same after a call.
 use Prim.Native.Nat.{ℕ, _+_, _-_, _*_, _%_, _^_, _≤_, _<_}
 use mathlib.Core.Path.{_≡_}
-use mathlib.Core.Bool.{Bool, true, false, _&&_}
+use mathlib.Core.Bool.{Bool, true, false, _&&_, cond}
 use mathlib.Core.List.{List}
 use lib.Dec.{eqb, ltb, leb}
 use lib.ListN.{length, getD}
 use Rattle.finite.specs.Below.{sum-below}
 use Rattle.subsets.specs.Inner.Folds.{split-key, by-key, best-split, counted-below}
-use Rattle.subsets.specs.Inner.Rebuild.{Source, rebuilt-row, rebuilt-key, rebuilt-choice, rebuilt-count}
+use Rattle.subsets.specs.Inner.Rebuild.{Source, rebuilt-row, rebuilt-key, rebuilt-entry, rebuilt-count}
 use Rattle.subsets.specs.Inner.Masks.{full}
 use Rattle.subsets.specs.Inner.Net.{Falls}
 use Rattle.subsets.specs.Inner.Keys.{key-parts}
@@ -64,7 +64,7 @@ source k size p sums t u =
 -- the row of p is rebuilt with its children below n, and its keys as row q: so are the choices of those children, and all other rows stay
 pub record Rebuilds (S : Source) (size p q n : ℕ) (t t' u u' g g' : List ℕ) (m : ℕ) : Type 0 where
   pub costs : RowSet size p (rebuilt-row S n) t t'
-  pub chosen : (c x : ℕ) → c < n → S .child c ≡ true → x < size → entry size u' c x ≡ rebuilt-choice S c x
+  pub chosen : (c x : ℕ) → c < n → S .child c ≡ true → x < size → entry size u' c x ≡ rebuilt-entry S size c x
   pub kept : (c x : ℕ) → (S .child c ≡ true → n ≤ c) → x < size → entry size u' c x ≡ entry size u c x
   pub keys : KeysSet size q (rebuilt-key S n) g g'
   pub count : m ≡ rebuilt-count S size n
@@ -73,16 +73,17 @@ pub record Rebuilds (S : Source) (size p q n : ℕ) (t t' u u' g g' : List ℕ) 
 abbrev pub joined-split : Link → ℕ → ℕ → ℕ → ℕ → List ℕ → (ℕ → Key) → List ℕ → List ℕ → ℕ → Best
 joined-split k size p c q sums kid t g x = best-split (by-key (key-entry size g q) kid x) (entry size t p) (entry size t c) (link-figures k sums) x
 
--- c, with the link k above it and the keys kid, is joined to p
+-- c, with the link k above it and the keys kid, is joined to p; the count m is the choice of the empty set
 pub record JoinsChild (k : Link) (size p c q : ℕ) (sums : List ℕ) (kid : ℕ → Key) (t t' u u' g g' : List ℕ) (m : ℕ) : Type 0 where
   pub costs : RowSet size p (λ x. joined-split k size p c q sums kid t g x .cost) t t'
-  pub choices : RowSet size c (λ x. joined-split k size p c q sums kid t g x .chosen) u u'
+  pub choices : RowSet size c (λ x. cond (eqb x 0) m (joined-split k size p c q sums kid t g x .chosen)) u u'
   pub keys : KeysSet size q (λ x. split-key (key-entry size g q) kid x (joined-split k size p c q sums kid t g x .chosen)) g g'
   pub count : m ≡ counted-below (entry size t p) (entry size t c) (link-figures k sums) size
 
 -- what joining a child asks for
 pub record JoinRoom (size p c q : ℕ) (t u g : List ℕ) : Type 0 where
   pub sets : size ≤ max-sets
+  pub row-size : (r : ℕ) × (r ≤ max-services) × (size ≡ 2 ^ r)
   pub row : p * size + size ≤ length t
   pub child : c * size + size ≤ length t
   pub choices : c * size + size ≤ length u
@@ -103,16 +104,17 @@ pub record Scratch (size : ℕ) (child link kid sums : List ℕ) : Type 0 where
   pub for-keys : 2 * size ≤ length kid
   pub for-sums : all-sums ≤ length sums
 
--- rows of keys are kept for the last so many cabinets: those after p are there, cabinet d as row d % rows
-pub record KeysKept (k : Records) (size p rows : ℕ) (u g : List ℕ) : Type 0 where
+-- there is room for so many rows of keys, and those of the cabinets after p and below p + near are there, cabinet d as row d % rows
+pub record KeysKept (k : Records) (size p rows near : ℕ) (u g : List ℕ) : Type 0 where
   pub some-rows : 0 < rows
+  pub no-more : near ≤ rows
   pub places : rows * (2 * size) ≤ length g
-  pub keys : (d x : ℕ) → p < d → d < k .cabinets → d - p < rows → x < size → key-entry size g (d % rows) x ≡ back-key k size u d x
+  pub keys : (d x : ℕ) → p < d → d < k .cabinets → d - p < near → x < size → key-entry size g (d % rows) x ≡ back-key k size u d x
 
 -- the row of p is what it is rebuilt from, with the choices of its children
 pub record Built (k : Records) (size p : ℕ) (sums t u : List ℕ) : Type 0 where
   pub costs : (x : ℕ) → x < size → entry size t p x ≡ rebuilt-row (source k size p sums t u) (k .cabinets) x
-  pub chosen : (c x : ℕ) → c < k .cabinets → source k size p sums t u .child c ≡ true → x < size → entry size u c x ≡ rebuilt-choice (source k size p sums t u) c x
+  pub chosen : (c x : ℕ) → c < k .cabinets → source k size p sums t u .child c ≡ true → x < size → entry size u c x ≡ rebuilt-entry (source k size p sums t u) size c x
 
 -- what filling both tables asks for
 pub record FillRoom (k : Records) (size : ℕ) (t u sums last prior : List ℕ) : Type 0 where

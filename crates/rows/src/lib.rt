@@ -92,8 +92,8 @@ fn are_rows(services: usize, cabinets: usize, sums: usize, costs: usize, choices
 }
 
 // Rebuilds the row of p: its own charges, then its children joined, in rising order. Gives the splits counted. `child`, `link` and `child_keys`
-// are room on the way; `keys` has `rows` rows of keys, those of cabinet d as row d % rows, and gets those of p. A row of a table has `size` entries;
-// `last` and `prior` are the lists of children; `weights` has the weight of each set.
+// are room on the way; `keys` has `rows` rows of keys, those of cabinet d as row d % rows, and gets those of p; those of the cabinets after p and
+// below p + near are there. A row of a table has `size` entries; `last` and `prior` are the lists of children; `weights` has the weight of each set.
 fn rebuild<'a>(
     costs: &mut [u64],
     choices: &mut [u16],
@@ -108,12 +108,13 @@ fn rebuild<'a>(
     prior: &'a [u16; Sheet::MAX_CABINETS],
     size: usize,
     rows: usize,
+    near: usize,
     p: usize,
 ) -> u64
     requires room { ⌜ RebuildRoom records size p (now costs) (now choices) ⌝ }
     requires scratch { ⌜ Scratch size (now child) (now link) (now «child_keys») (now sums) ⌝ }
     requires readable { ⌜ Readable (tree records) size (now choices) (now last) (now prior) (now weights) ⌝ }
-    requires kept { ⌜ KeysKept records size p rows (now choices) (now keys) ⌝ }
+    requires kept { ⌜ KeysKept records size p rows near (now choices) (now keys) ⌝ }
     ensures { λ n. ⌜ Rebuilds (source records size p (now (sums .entry)) (now (costs .entry)) (now (choices .entry))) size p (p % rows) (records .cabinets)
         (now (costs .entry)) (now (costs .exit)) (now (choices .entry)) (now (choices .exit)) (now (keys .entry)) (now (keys .exit)) n ⌝ }
 {
@@ -154,6 +155,7 @@ fn rebuild<'a>(
             weights,
             size,
             rows,
+            near,
             p,
             d,
         );
@@ -211,6 +213,7 @@ fn fill_rows<'a>(
             last,
             prior,
             size,
+            rows,
             rows,
             p,
         );

@@ -28,7 +28,7 @@ fn copy_row(copy: &mut [u64], row: &[u64])
     }
 }
 
-// The keys of p's child c: copied where its row of keys is kept, else read back from the choices.
+// The keys of p's child c: copied where its row of keys is kept, as it is for the children below p + near, else read back from the choices.
 pub(crate) fn fetch_keys<'a>(
     child_keys: &mut [u64],
     keys: &'a [u64],
@@ -38,6 +38,7 @@ pub(crate) fn fetch_keys<'a>(
     weights: &'a [u32],
     size: usize,
     rows: usize,
+    near: usize,
     p: usize,
     c: usize,
 )
@@ -45,9 +46,9 @@ pub(crate) fn fetch_keys<'a>(
     requires room { ⌜ (2 * size ≤ length (now «child_keys»)) × (0 < rows) × (rows * (2 * size) ≤ length (now keys)) ⌝ }
     ensures { λ u. ⌜ ((N : Net) → Readable N size (now (choices .entry)) (now (last .entry)) (now (prior .entry)) (now (weights .entry)) → c < N .s
         → (x : ℕ) → x < size → key-in (now («child_keys» .exit)) x
-        ≡ cond (ltb (c - p) rows) (key-entry size (now (keys .entry)) (c % rows) x) (key-parts base low-digits N (entry size (now (choices .entry))) c (N .s) x)) ⌝ }
+        ≡ cond (ltb (c - p) near) (key-entry size (now (keys .entry)) (c % rows) x) (key-parts base low-digits N (entry size (now (choices .entry))) c (N .s) x)) ⌝ }
 {
-    if c - p < rows {
+    if c - p < near {
         let at = (c % rows) * (2 * size);
         let end = at + 2 * size;
         copy_row(child_keys, &keys[at..end]);
@@ -57,7 +58,7 @@ pub(crate) fn fetch_keys<'a>(
 }
 
 // Joins the row of p's child c, with the link k above it and its keys, into that of p, whose keys are row q of those kept. The child's row is
-// copied first, since two rows of one table cannot be lent at once.
+// copied first, since two rows of one table cannot be lent at once. The count takes the choice of the empty set, which is never asked for.
 pub(crate) fn join_child(
     costs: &mut [u64],
     choices: &mut [u16],
@@ -85,12 +86,14 @@ pub(crate) fn join_child(
     let first_end = first + 2 * size;
     copy_row(child, &costs[below..below_end]);
     link_row(link, sums, k, size);
-    join(
+    let count = join(
         &mut costs[at..end],
         &mut choices[below..below_end],
         &mut keys[first..first_end],
         &child[..],
         &link[..],
         child_keys,
-    )
+    );
+    choices[below] = count as u16;
+    count
 }

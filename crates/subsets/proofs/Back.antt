@@ -46,9 +46,14 @@ module _ (N : Net) (choice : ℕ → ℕ → ℕ) where
 
 -- ---- what a walk depends on
 
--- the entries of p's children for the sets that it meets, and what lies below those children; of the net the parents alone
+-- the entry of the empty set is read as the empty set, whatever it is
+stays-same : (choice choice₁ : ℕ → ℕ → ℕ) (c x : ℕ) → (0 < x → choice c x ≡ choice₁ c x) → stays choice c x ≡ stays choice₁ c x
+stays-same choice choice₁ c zero h = let a = and-le-r (choice c 0) 0 in let b = and-le-r (choice₁ c 0) 0 in omega arith
+stays-same choice choice₁ c (suc x) h = ap (λ (a : ℕ). bitAnd a (suc x)) (h (omega arith))
+
+-- the entries of p's children for the sets that it meets, but the empty one, and what lies below those children; of the net the parents alone
 walk-same : (N N₁ : Net) → N .parent ≡ N₁ .parent → (choice choice₁ : ℕ → ℕ → ℕ) (down down₁ : ℕ → ℕ → ℕ → ℕ) (p i m k : ℕ)
-    → ((c y : ℕ) → child N p c ≡ true → c < k → y < m → (choice c y ≡ choice₁ c y) × (down c y i ≡ down₁ c y i))
+    → ((c y : ℕ) → child N p c ≡ true → c < k → y < m → (0 < y → choice c y ≡ choice₁ c y) × (down c y i ≡ down₁ c y i))
     → (x : ℕ) → x < m → walk N choice down p k x i ≡ walk N₁ choice₁ down₁ p k x i
 unfolding walk
 walk-same N N₁ up choice choice₁ down down₁ p i m zero h x hx = refl
@@ -63,7 +68,7 @@ walk-same N N₁ up choice choice₁ down down₁ p i m (suc k) h x hx =
         child₁ = ap (λ (f : ℕ → ℕ). ltb 0 k && eqb (f k) p) (sym up) ∙ e
 
         entry : stays choice k x ≡ stays choice₁ k x
-        entry = ap (λ (a : ℕ). bitAnd a x) (h k x e (omega arith) hx .0)
+        entry = stays-same choice choice₁ k x (h k x e (omega arith) hx .0)
 
         at : (t : Bool) → has (stays choice k x) i ≡ t → walk N choice down p (suc k) x i ≡ walk N₁ choice₁ down₁ p (suc k) x i
         at true q =
@@ -77,7 +82,7 @@ walk-same N N₁ up choice choice₁ down down₁ p i m (suc k) h x hx =
 
 -- So does a placing read back, where the children of nodes in question are in question too.
 module _ (N N₁ : Net) (nodes : N .s ≡ N₁ .s) (up : N .parent ≡ N₁ .parent) (choice choice₁ : ℕ → ℕ → ℕ) (In : ℕ → Type 0) (i m top : ℕ) (all : N .s ≤ top)
-    (same : (p c y : ℕ) → In p → child N p c ≡ true → c < top → y < m → In c × (choice c y ≡ choice₁ c y)) where
+    (same : (p c y : ℕ) → In p → child N p c ≡ true → c < top → y < m → In c × (0 < y → choice c y ≡ choice₁ c y)) where
   descent-same : (n p x : ℕ) → In p → x < m → descent N choice n p x i ≡ descent N₁ choice₁ n p x i
   unfolding descent
   descent-same zero p x hp hx = refl
@@ -96,22 +101,22 @@ module _ (N N₁ : Net) (nodes : N .s ≡ N₁ .s) (up : N .parent ≡ N₁ .par
 -- A placing read back depends on the number of nodes and the parents alone.
 pub seat-bare : (N N₁ : Net) → N .s ≡ N₁ .s → N .parent ≡ N₁ .parent → (choice : ℕ → ℕ → ℕ) (p k x i : ℕ) → seat N choice p k x i ≡ seat N₁ choice p k x i
 seat-bare N N₁ nodes up choice p k x i =
-    seat-same N N₁ nodes up choice choice (λ c. 0 ≤ c) i (suc x) (N .s + k) (omega arith) (λ p c y h e l m. (omega arith, refl)) p k x (omega arith) (omega arith) (omega arith)
+    seat-same N N₁ nodes up choice choice (λ c. 0 ≤ c) i (suc x) (N .s + k) (omega arith) (λ p c y h e l m. (omega arith, λ z. refl)) p k x (omega arith) (omega arith) (omega arith)
 
--- From p it reads only the entries of nodes whose parents are p or later.
+-- From p it reads only the entries of nodes whose parents are p or later, and none of the empty set.
 pub seat-ext : (N : Net) → Falls (N .parent) → (choice choice₁ : ℕ → ℕ → ℕ) (q i : ℕ)
-    → ((d x : ℕ) → 0 < d → d < N .s → q ≤ N .parent d → x < 2 ^ N .r → choice d x ≡ choice₁ d x)
+    → ((d x : ℕ) → 0 < d → d < N .s → q ≤ N .parent d → 0 < x → x < 2 ^ N .r → choice d x ≡ choice₁ d x)
     → (p k x : ℕ) → q ≤ p → k ≤ N .s → x < 2 ^ N .r → seat N choice p k x i ≡ seat N choice₁ p k x i
 seat-ext N falls choice choice₁ q i same =
     seat-same N N refl refl choice choice₁ (λ c. q ≤ c) i (2 ^ N .r) (N .s) (omega arith) (λ p c y h e l hy.
     let w = child-parent N p c e in
-    (omega (arith, falls c (w .0), w .1), same c y (w .0) l (omega (arith, w .1)) hy))
+    (omega (arith, falls c (w .0), w .1), λ z. same c y (w .0) l (omega (arith, w .1)) z hy))
 
 -- And it reads only entries of nodes and sets that are there.
-pub seat-table : (N : Net) (choice choice₁ : ℕ → ℕ → ℕ) → ((c x : ℕ) → c < N .s → x < 2 ^ N .r → choice c x ≡ choice₁ c x)
+pub seat-table : (N : Net) (choice choice₁ : ℕ → ℕ → ℕ) → ((c x : ℕ) → c < N .s → 0 < x → x < 2 ^ N .r → choice c x ≡ choice₁ c x)
     → (p k x i : ℕ) → k ≤ N .s → x < 2 ^ N .r → seat N choice p k x i ≡ seat N choice₁ p k x i
 seat-table N choice choice₁ same p k x i hk hx =
-    seat-same N N refl refl choice choice₁ (λ c. 0 ≤ c) i (2 ^ N .r) (N .s) (omega arith) (λ p c y h e l hy. (omega arith, same c y l hy)) p k x (omega arith) hk hx
+    seat-same N N refl refl choice choice₁ (λ c. 0 ≤ c) i (2 ^ N .r) (N .s) (omega arith) (λ p c y h e l hy. (omega arith, λ z. same c y l z hy)) p k x (omega arith) hk hx
 
 module _ (N : Net) (choice : ℕ → ℕ → ℕ) (falls : Falls (N .parent)) where
   above : (p k : ℕ) → child N p k ≡ true → p < k
@@ -123,7 +128,7 @@ module _ (N : Net) (choice : ℕ → ℕ → ℕ) (falls : Falls (N .parent)) wh
   descent-more zero p x i h k = absurd (omega arith)
   descent-more (suc n) p x i h k =
       walk-same N N refl choice choice (descent N choice n) (descent N choice (suc n)) p i (suc x) (N .s)
-      (λ c y e l m. (refl, descent-more n c y i l (omega (arith, above p c e)))) x (omega arith)
+      (λ c y e l m. (λ z. refl, descent-more n c y i l (omega (arith, above p c e)))) x (omega arith)
 
   -- ---- the steps of the walk
 

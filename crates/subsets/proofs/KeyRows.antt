@@ -103,10 +103,10 @@ last-child-is N p (suc k) z = go (child N p k) refl (last-child-is N p k)
 
 -- ---- what a key read back depends on
 
--- Tables that agree for all nodes whose parents are p or later give the same key: a planner that has filled the entries of all nodes whose parents come
--- after p can read the keys of p's children.
+-- Tables that agree for all nodes whose parents are p or later, and all sets but the empty one, give the same key: a planner that has filled the entries
+-- of all nodes whose parents come after p can read the keys of p's children.
 pub key-at-ext : (N : Net) (w : ℕ → ℕ) → Falls (N .parent) → (choice choice₁ : ℕ → ℕ → ℕ) (q : ℕ)
-    → ((d x : ℕ) → 0 < d → d < N .s → q ≤ N .parent d → x < 2 ^ N .r → choice d x ≡ choice₁ d x)
+    → ((d x : ℕ) → 0 < d → d < N .s → q ≤ N .parent d → 0 < x → x < 2 ^ N .r → choice d x ≡ choice₁ d x)
     → (p k x : ℕ) → q ≤ p → k ≤ N .s → x < 2 ^ N .r → key-at N w choice p k x ≡ key-at N w choice₁ p k x
 key-at-ext N w falls choice choice₁ q same p k x hq hk hx = key-ext (N .r) w x _ _ (λ i l e. seat-ext N falls choice choice₁ q i same p k x hq hk hx)
 

@@ -3,7 +3,10 @@ use Prim.Native.Nat.{ℕ, zero, suc, _+_, _-_, _*_, _^_, _≤_, _<_}
 use native.Mathlib.Omega.{arith}
 use native.Mathlib.Nat.{add-zero}
 use mathlib.Core.Path.{_≡_, refl, sym, ap, ap₂, _∙_}
-use mathlib.Core.Bool.{Bool, true, false}
+use mathlib.Core.Bool.{Bool, true, false, cond}
+use lib.Bits.{bitAnd, and-le-r}
+use lib.Dec.{eqb}
+use borrow.Author.Tests.{ne-eqb}
 use Rattle.finite.specs.Below.{only, sum-below}
 use Rattle.finite.proofs.Sums.{sum-ext, only-ext}
 use Rattle.subsets.specs.Costs.{some}
@@ -11,14 +14,16 @@ use Rattle.subsets.specs.Figures.{limit}
 use Rattle.subsets.specs.Inner.Encoded.{figure}
 use Rattle.subsets.specs.Inner.Net.{Falls, Net}
 use Rattle.subsets.specs.Inner.Rows.{child, row-at, choice-at}
-use Rattle.subsets.specs.Inner.Count.{joins}
+use Rattle.subsets.specs.Inner.Count.{pairs, flagged, joins}
 use Rattle.subsets.specs.Inner.Folds.{earlier, plus, split-key, by-key, best-split, counted-below, Holds}
 use Rattle.subsets.specs.Inner.Keys.{ordered, key-parts}
-use Rattle.subsets.specs.Inner.Rebuild.{Source, rebuilt-row, rebuilt-key, rebuilt-choice, rebuilt-count}
+use Rattle.subsets.specs.Inner.Kept.{kept-choice}
+use Rattle.subsets.specs.Inner.Rebuild.{Source, rebuilt-row, rebuilt-key, rebuilt-choice, join-count, rebuilt-entry, rebuilt-count}
 use Rattle.subsets.specs.declared.Best.{Best}
 use Rattle.subsets.specs.declared.Key.{Key}
 use Rattle.subsets.proofs.Sets.{Sub, sub-le}
-use Rattle.subsets.proofs.Folds.{best-ext, best-sub, counted-ext}
+use Rattle.subsets.proofs.Count.{pairs-le}
+use Rattle.subsets.proofs.Folds.{best-ext, best-sub, counted-ext, counted-pairs}
 use Rattle.subsets.proofs.Rows.{row-alone, row-pass}
 use Rattle.subsets.proofs.Tables.{next-figure, next-count}
 use Rattle.subsets.proofs.KeyRows.{parts-ext}
@@ -42,7 +47,7 @@ module _ (S : Source) where
   unfolding rebuilt-key
   key-pass c x e = rw (e, rebuilt-key)
 
-  pub count-join : (size c : ℕ) → S .child c ≡ true → rebuilt-count S size (suc c) ≡ rebuilt-count S size c + counted-below (rebuilt-row S c) (S .row c) (S .link c) size
+  pub count-join : (size c : ℕ) → S .child c ≡ true → rebuilt-count S size (suc c) ≡ rebuilt-count S size c + join-count S size c
   unfolding rebuilt-count sum-below only
   count-join size c e = rw e
 
@@ -66,10 +71,30 @@ module _ (S : Source) where
   count-start size zero h = refl
   count-start size (suc k) h = count-pass size k (h k (omega arith)) ∙ count-start size k (λ c l. h c (omega arith))
 
--- the choice is no larger a number than the set
-pub choice-le : (S : Source) (c x : ℕ) → rebuilt-choice S c x ≤ x
+-- the choice is a subset
+choice-sub : (S : Source) (c x : ℕ) → Sub (rebuilt-choice S c x) x
 unfolding rebuilt-choice
-choice-le S c x = sub-le (rebuilt-choice S c x) x (best-sub (by-key (rebuilt-key S c) (S .key c) x) (rebuilt-row S c) (S .row c) (S .link c) x)
+choice-sub S c x = best-sub (by-key (rebuilt-key S c) (S .key c) x) (rebuilt-row S c) (S .row c) (S .link c) x
+
+-- and so no larger a number than the set
+pub choice-le : (S : Source) (c x : ℕ) → rebuilt-choice S c x ≤ x
+choice-le S c x = sub-le (rebuilt-choice S c x) x (choice-sub S c x)
+
+-- for any set but the empty one the entry of the choice table is the choice
+pub entry-chosen : (S : Source) (size c x : ℕ) → 0 < x → rebuilt-entry S size c x ≡ rebuilt-choice S c x
+unfolding rebuilt-entry
+entry-chosen S size c x z = rw (ne-eqb x 0 (λ e. omega arith)) refl
+
+-- read as a subset of the set it is the choice for every set
+pub entry-stays : (S : Source) (size c x : ℕ) → bitAnd (rebuilt-entry S size c x) x ≡ rebuilt-choice S c x
+entry-stays S size c zero = let a = and-le-r (rebuilt-entry S size c 0) 0 in let b = choice-le S c 0 in omega arith
+entry-stays S size c (suc x) = ap (λ (a : ℕ). bitAnd a (suc x)) (entry-chosen S size c (suc x) (omega arith)) ∙ choice-sub S c (suc x)
+
+-- the count of a join is at most that of all pairs of a set and a subset of it
+pub join-count-le : (S : Source) (size r c : ℕ) → size ≡ 2 ^ r → join-count S size c ≤ 3 ^ r
+unfolding join-count
+join-count-le S size r c e =
+    rw e (rw (counted-pairs (rebuilt-row S c) (S .row c) (S .link c) r) (pairs-le r _))
 
 -- splits of x are ordered by keys of the sets up to x
 pub by-key-ext : (keys keys₁ kid kid₁ : ℕ → Key) (x : ℕ) → ((a : ℕ) → a ≤ x → keys a ≡ keys₁ a) → ((a : ℕ) → a ≤ x → kid a ≡ kid₁ a)
@@ -124,12 +149,20 @@ module _ (size : ℕ) (S S₁ : Source) (A : Agree size S S₁) where
   pub choice-agrees : (c x : ℕ) → S .child c ≡ true → x < size → rebuilt-choice S c x ≡ rebuilt-choice S₁ c x
   choice-agrees c x e h = join-agrees c x e h (key-agrees c)
 
+  pub join-count-agrees : (c : ℕ) → S .child c ≡ true → join-count S size c ≡ join-count S₁ size c
+  unfolding join-count
+  join-count-agrees c e = counted-ext _ _ _ _ _ _ size (row-agrees c) (λ a l. A .row c a e l) (λ a l. A .link c a e l)
+
+  pub entry-agrees : (c x : ℕ) → S .child c ≡ true → x < size → rebuilt-entry S size c x ≡ rebuilt-entry S₁ size c x
+  unfolding rebuilt-entry
+  entry-agrees c x e h = ap₂ (λ (m n : ℕ). cond (eqb x 0) m n) (join-count-agrees c e) (choice-agrees c x e h)
+
   pub count-agrees : (k : ℕ) → rebuilt-count S size k ≡ rebuilt-count S₁ size k
   unfolding rebuilt-count
   count-agrees k =
       sum-ext k _ _ (λ c m.
-      only-ext (S .child c) _ _ (λ e. counted-ext _ _ _ _ _ _ size (row-agrees c) (λ a l. A .row c a e l) (λ a l. A .link c a e l))
-      ∙ ap (λ (t : Bool). only t (counted-below (rebuilt-row S₁ c) (S₁ .row c) (S₁ .link c) size)) (A .child c))
+      only-ext (S .child c) _ _ (λ e. join-count-agrees c e)
+      ∙ ap (λ (t : Bool). only t (join-count S₁ size c)) (A .child c))
 
 -- ---- a bound of keys, whatever is rebuilt
 
@@ -179,14 +212,17 @@ module _ (N : Net) (falls : Falls (N .parent)) (B : ℕ)
           ∙ next-figure N falls B nodes links small p c e (omega arith) (rebuilt-row S c) (S .row c) (S .link c) ih (H .rows c (omega arith) e) (H .links c (omega arith) e) x hx earlier
       go false e ih = rebuilt-pass S c x (H .children c (omega arith) ∙ e) ∙ ih x hx ∙ ap figure (sym (row-pass N falls p c x e))
 
-  -- so is the count
+  -- so is the count of each join, and of all
+  join-counted : (c : ℕ) → c < N .s → child N p c ≡ true → join-count S (2 ^ N .r) c ≡ pairs (N .r) (flagged N c)
+  unfolding join-count
+  join-counted c l e =
+      next-count N falls B nodes links small p c e l (rebuilt-row S c) (S .row c) (S .link c) (rebuilt-holds c (omega arith)) (H .rows c l e) (H .links c l e)
+
   pub rebuilt-counted : (k : ℕ) → k ≤ N .s → rebuilt-count S (2 ^ N .r) k ≡ joins N p k
   unfolding rebuilt-count joins
   rebuilt-counted k l =
       sum-ext k _ _ (λ c m.
-      ap (λ (t : Bool). only t (counted-below (rebuilt-row S c) (S .row c) (S .link c) (2 ^ N .r))) (H .children c (omega arith))
-      ∙ only-ext (child N p c) _ _ (λ e.
-      next-count N falls B nodes links small p c e (omega arith) (rebuilt-row S c) (S .row c) (S .link c) (rebuilt-holds c (omega arith)) (H .rows c (omega arith) e) (H .links c (omega arith) e)))
+      ap (λ (t : Bool). only t (join-count S (2 ^ N .r) c)) (H .children c (omega arith)) ∙ only-ext (child N p c) _ _ (λ e. join-counted c (omega arith) e))
 
   -- the keys after the children below k are those of the placings read back
   abbrev Keyed : ℕ → Type 0
@@ -211,6 +247,8 @@ module _ (N : Net) (falls : Falls (N .parent)) (B : ℕ)
           ∙ next-parts b h N falls some-node base more p c e (omega arith) (rebuilt-key S c) (S .key c) ih (H .keys c (omega arith) e) x hx
       go false e ih = key-pass S c x (H .children c (omega arith) ∙ e) ∙ ih x hx ∙ sym (parts-ext b h N _ _ p (suc c) x p c x (λ v. read-back.key-pass N v (choice-at (ordered b N)) falls p c x e))
 
-  -- and its choices are that table's.
-  pub rebuilt-chosen : (c x : ℕ) → c < N .s → child N p c ≡ true → x < 2 ^ N .r → rebuilt-choice S c x ≡ choice-at (ordered b N) c x
-  rebuilt-chosen c x l e hx = chosen c x l e hx (rebuilt-keyed c (omega arith))
+  -- and its choices are that table's, with the counts of the joins.
+  pub rebuilt-kept : (c x : ℕ) → c < N .s → child N p c ≡ true → x < 2 ^ N .r → rebuilt-entry S (2 ^ N .r) c x ≡ kept-choice b N c x
+  unfolding rebuilt-entry kept-choice
+  rebuilt-kept c x l e hx =
+      ap₂ (λ (m n : ℕ). cond (eqb x 0) m n) (join-counted c l e) (chosen c x l e hx (rebuilt-keyed c (omega arith)))

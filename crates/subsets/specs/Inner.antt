@@ -1,4 +1,4 @@
--- What the planner's mathematics is about, in the order to read it: least charges on a tree for any charges whatever, their rows, counts and read-back, and keys, by which ties are settled.
+-- What the planner's mathematics is about, in the order to read it: least charges on a tree for any charges whatever, their rows, counts and read-back, keys, by which ties are settled, and kept tables.
 pub mod Masks
 pub mod Loop
 pub mod Totals
@@ -12,3 +12,4 @@ pub mod Folds
 pub mod Rebuild
 pub mod Back
 pub mod Keys
+pub mod Kept

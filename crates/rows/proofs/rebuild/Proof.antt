@@ -19,12 +19,12 @@ use Rattle.rows.proofs.rebuild.Statement.{statement}
 use Rattle.rows.proofs.rebuild.Tie as tie
 
 abbrev Inv-loop : tie.InvT-loop
-Inv-loop costs₀ choices₀ keys₀ child₀ link₀ child-keys₀ sums weights last prior size rows p records at end q first first-end past-last count₀ c₀ costs choices keys child link child-keys count c =
+Inv-loop costs₀ choices₀ keys₀ child₀ link₀ child-keys₀ sums weights last prior size rows near p records at end q first first-end past-last count₀ c₀ costs choices keys child link child-keys count c =
     Children (source records size p sums costs₀ choices₀) size p q c (records .cabinets) costs₀ costs choices₀ choices keys₀ keys count
     × (length child ≡ length child₀) × (length link ≡ length link₀) × (length child-keys ≡ length child-keys₀)
 
 abbrev μ-loop : tie.MeasureT-loop
-μ-loop costs₀ choices₀ keys₀ child₀ link₀ child-keys₀ sums weights last prior size rows p records at end q first first-end past-last count₀ c₀ costs choices keys child link child-keys count c = records .cabinets - c
+μ-loop costs₀ choices₀ keys₀ child₀ link₀ child-keys₀ sums weights last prior size rows near p records at end q first first-end past-last count₀ c₀ costs choices keys child link child-keys count c = records .cabinets - c
 
 -- the row of p lies within the tables
 row-fits : (c : tie.Start Inv-loop μ-loop) → (c .args .p * c .args .size + c .args .size ≤ length (c .args .costs .now)) × (c .args .p * c .args .size + c .args .size ≤ max-cabinets * max-sets)
@@ -37,17 +37,17 @@ slot-fits c =
     let K = c .pre .1 .1 .1 in
     (slot-in (c .args .size) (c .args .rows) (c .args .p) (c .args .keys .now) (K .some-rows) (K .places), slot-small (c .args .size) (c .args .rows) (c .args .p) (omega (arith, R .cabinet, R .cabinets)) (R .sets) (K .some-rows))
 
-mul-t27 : tie.Need-mul-t27 Inv-loop μ-loop
-mul-t27 c = omega (arith, c .before .before .before .before .before .before .before .before .pre .0 .cabinet, c .before .before .before .before .before .before .before .before .pre .0 .cabinets)
+mul-t28 : tie.Need-mul-t28 Inv-loop μ-loop
+mul-t28 c = omega (arith, c .before .before .before .before .before .before .before .before .pre .0 .cabinet, c .before .before .before .before .before .before .before .before .pre .0 .cabinets)
 
-element-copy-out-t30 : tie.Need-element-copy-out-t30 Inv-loop μ-loop
-element-copy-out-t30 c = omega (arith, c .before .before .before .before .before .before .before .before .pre .0 .cabinet, c .before .before .before .before .before .before .before .before .pre .0 .cabinets)
+element-copy-out-t31 : tie.Need-element-copy-out-t31 Inv-loop μ-loop
+element-copy-out-t31 c = omega (arith, c .before .before .before .before .before .before .before .before .pre .0 .cabinet, c .before .before .before .before .before .before .before .before .pre .0 .cabinets)
 
-mul-t31 : tie.Need-mul-t31 Inv-loop μ-loop
-mul-t31 c = omega (arith, c .before .before .before .before .before .before .before .before .before .pre .0 .cabinet, c .before .before .before .before .before .before .before .before .before .pre .0 .cabinets)
+mul-t32 : tie.Need-mul-t32 Inv-loop μ-loop
+mul-t32 c = omega (arith, c .before .before .before .before .before .before .before .before .before .pre .0 .cabinet, c .before .before .before .before .before .before .before .before .before .pre .0 .cabinets)
 
-element-copy-out-t34 : tie.Need-element-copy-out-t34 Inv-loop μ-loop
-element-copy-out-t34 c = omega (arith, c .before .before .before .before .before .before .before .before .before .pre .0 .cabinet, c .before .before .before .before .before .before .before .before .before .pre .0 .cabinets)
+element-copy-out-t35 : tie.Need-element-copy-out-t35 Inv-loop μ-loop
+element-copy-out-t35 c = omega (arith, c .before .before .before .before .before .before .before .before .before .pre .0 .cabinet, c .before .before .before .before .before .before .before .before .before .pre .0 .cabinets)
 
 mul-index : tie.Need-mul-index Inv-loop μ-loop
 mul-index c = omega (arith, c .before .before .before .before .before .before .before .before .before .before .pre .0 .cabinet, c .before .before .before .before .before .before .before .before .before .before .pre .0 .cabinets)
@@ -136,7 +136,7 @@ same-keys : (c : tie.After-slice-known8 Inv-loop μ-loop) → length (put-row (2
 same-keys c = put-length (2 * c .before .before .before .before .before .before .before .before .before .before .before .before .before .before .before .before .before .before .before .args .size) (c .before .before .before .before .before .before .before .before .before .before .before .before .before .before .before .before .before .before .before .args .p % c .before .before .before .before .before .before .before .before .before .before .before .before .before .before .before .before .before .before .before .args .rows) (c .before .before .before .before .before .before .before .before .before .before .before .before .before .before .before .before .before .before .before .args .keys .now) (slot-fits (c .before .before .before .before .before .before .before .before .before .before .before .before .before .before .before .before .before .before .before) .0) (c .before .before .own-keys .last .0) (c .before .before .own-keys .kept .0)
 
 -- the keys kept are still there
-kept : (c : tie.After-slice-known8 Inv-loop μ-loop) → KeysKept (c .before .before .before .before .before .before .before .before .before .before .before .before .before .before .before .before .before .before .before .args .t7) (c .before .before .before .before .before .before .before .before .before .before .before .before .before .before .before .before .before .before .before .args .size) (c .before .before .before .before .before .before .before .before .before .before .before .before .before .before .before .before .before .before .before .args .p) (c .before .before .before .before .before .before .before .before .before .before .before .before .before .before .before .before .before .before .before .args .rows) (c .before .before .before .before .before .before .before .before .before .before .before .before .before .before .before .before .before .before .before .args .choices .now) (put-row (2 * c .before .before .before .before .before .before .before .before .before .before .before .before .before .before .before .before .before .before .before .args .size) (c .before .before .before .before .before .before .before .before .before .before .before .before .before .before .before .before .before .before .before .args .p % c .before .before .before .before .before .before .before .before .before .before .before .before .before .before .before .before .before .before .before .args .rows) (c .before .before .before .before .before .before .before .before .before .before .before .before .before .before .before .before .before .before .before .args .keys .now) (c .before .before .own-keys .last .0))
+kept : (c : tie.After-slice-known8 Inv-loop μ-loop) → KeysKept (c .before .before .before .before .before .before .before .before .before .before .before .before .before .before .before .before .before .before .before .args .t7) (c .before .before .before .before .before .before .before .before .before .before .before .before .before .before .before .before .before .before .before .args .size) (c .before .before .before .before .before .before .before .before .before .before .before .before .before .before .before .before .before .before .before .args .p) (c .before .before .before .before .before .before .before .before .before .before .before .before .before .before .before .before .before .before .before .args .rows) (c .before .before .before .before .before .before .before .before .before .before .before .before .before .before .before .before .before .before .before .args .near) (c .before .before .before .before .before .before .before .before .before .before .before .before .before .before .before .before .before .before .before .args .choices .now) (put-row (2 * c .before .before .before .before .before .before .before .before .before .before .before .before .before .before .before .before .before .before .before .args .size) (c .before .before .before .before .before .before .before .before .before .before .before .before .before .before .before .before .before .before .before .args .p % c .before .before .before .before .before .before .before .before .before .before .before .before .before .before .before .before .before .before .before .args .rows) (c .before .before .before .before .before .before .before .before .before .before .before .before .before .before .before .before .before .before .before .args .keys .now) (c .before .before .own-keys .last .0))
 kept c = kept-alone (c .before .before .before .before .before .before .before .before .before .before .before .before .before .before .before .before .before .before .before .pre .1 .1 .1) (keyed c) (same-keys c)
 
 mul-index-2 : tie.Need-mul-index-2 Inv-loop μ-loop
@@ -179,29 +179,29 @@ loop-less c = omega (arith, (there (c .before .before .before)))
 loop-again : tie.Need-loop-again Inv-loop μ-loop
 loop-again c = (children-pass (c .before .before .before .before .before .before .before .before .before .before .before .before .before .before .before .before .before .before .before .before .before .before .before .before .before .before .args .sums .now) (charged (c .before .before .before .before .before .before .before) .room) _ _ (c .before .before .before .before .loop .inv .0) (there (c .before .before .before)) (λ e. c .if1 .taken (c .before .index2 .ensures .0 ∙ sym (field-at (c .before .before .before .before .before .before .before .before .before .before .before .before .before .before .before .before .before .before .before .before .before .before .before .before .before .before .args .t7 .cabinets) (c .before .before .before .before .before .before .before .before .before .before .before .before .before .before .before .before .before .before .before .before .before .before .before .before .before .before .args .t7 .parent) (c .before .before .before .before .loop .c) (there (c .before .before .before))) ∙ e)), c .before .before .before .before .loop .inv .1, c .before .before .before .before .loop .inv .2, c .before .before .before .before .loop .inv .3)
 
-mul-t49 : tie.Need-mul-t49 Inv-loop μ-loop
-mul-t49 c = omega (arith, there (c .before .before .before), c .before .before .before .before .before .before .before .before .before .before .before .before .before .before .before .before .before .before .before .before .before .before .before .before .before .before .pre .0 .cabinets)
-
-element-copy-out-t53 : tie.Need-element-copy-out-t53 Inv-loop μ-loop
-element-copy-out-t53 c = omega (arith, there (c .before .before .before), c .before .before .before .before .before .before .before .before .before .before .before .before .before .before .before .before .before .before .before .before .before .before .before .before .before .before .pre .0 .cabinets)
-
 mul-t50 : tie.Need-mul-t50 Inv-loop μ-loop
-mul-t50 c = omega (arith, there (c .before .before .before .before), c .before .before .before .before .before .before .before .before .before .before .before .before .before .before .before .before .before .before .before .before .before .before .before .before .before .before .before .pre .0 .cabinets)
+mul-t50 c = omega (arith, there (c .before .before .before), c .before .before .before .before .before .before .before .before .before .before .before .before .before .before .before .before .before .before .before .before .before .before .before .before .before .before .pre .0 .cabinets)
 
-element-copy-out-t58 : tie.Need-element-copy-out-t58 Inv-loop μ-loop
-element-copy-out-t58 c = omega (arith, there (c .before .before .before .before), c .before .before .before .before .before .before .before .before .before .before .before .before .before .before .before .before .before .before .before .before .before .before .before .before .before .before .before .pre .0 .cabinets)
+element-copy-out-t54 : tie.Need-element-copy-out-t54 Inv-loop μ-loop
+element-copy-out-t54 c = omega (arith, there (c .before .before .before), c .before .before .before .before .before .before .before .before .before .before .before .before .before .before .before .before .before .before .before .before .before .before .before .before .before .before .pre .0 .cabinets)
 
-mul-t59 : tie.Need-mul-t59 Inv-loop μ-loop
-mul-t59 c = omega (arith, there (c .before .before .before .before .before), c .before .before .before .before .before .before .before .before .before .before .before .before .before .before .before .before .before .before .before .before .before .before .before .before .before .before .before .before .pre .0 .cabinets)
+mul-t51 : tie.Need-mul-t51 Inv-loop μ-loop
+mul-t51 c = omega (arith, there (c .before .before .before .before), c .before .before .before .before .before .before .before .before .before .before .before .before .before .before .before .before .before .before .before .before .before .before .before .before .before .before .before .pre .0 .cabinets)
 
-element-copy-out-t62 : tie.Need-element-copy-out-t62 Inv-loop μ-loop
-element-copy-out-t62 c = omega (arith, there (c .before .before .before .before .before), c .before .before .before .before .before .before .before .before .before .before .before .before .before .before .before .before .before .before .before .before .before .before .before .before .before .before .before .before .pre .0 .cabinets)
+element-copy-out-t59 : tie.Need-element-copy-out-t59 Inv-loop μ-loop
+element-copy-out-t59 c = omega (arith, there (c .before .before .before .before), c .before .before .before .before .before .before .before .before .before .before .before .before .before .before .before .before .before .before .before .before .before .before .before .before .before .before .before .pre .0 .cabinets)
 
-mul-t63 : tie.Need-mul-t63 Inv-loop μ-loop
-mul-t63 c = omega (arith, there (c .before .before .before .before .before .before), c .before .before .before .before .before .before .before .before .before .before .before .before .before .before .before .before .before .before .before .before .before .before .before .before .before .before .before .before .before .pre .0 .cabinets)
+mul-t60 : tie.Need-mul-t60 Inv-loop μ-loop
+mul-t60 c = omega (arith, there (c .before .before .before .before .before), c .before .before .before .before .before .before .before .before .before .before .before .before .before .before .before .before .before .before .before .before .before .before .before .before .before .before .before .before .pre .0 .cabinets)
 
-element-copy-out-t66 : tie.Need-element-copy-out-t66 Inv-loop μ-loop
-element-copy-out-t66 c = omega (arith, there (c .before .before .before .before .before .before), c .before .before .before .before .before .before .before .before .before .before .before .before .before .before .before .before .before .before .before .before .before .before .before .before .before .before .before .before .before .pre .0 .cabinets)
+element-copy-out-t63 : tie.Need-element-copy-out-t63 Inv-loop μ-loop
+element-copy-out-t63 c = omega (arith, there (c .before .before .before .before .before), c .before .before .before .before .before .before .before .before .before .before .before .before .before .before .before .before .before .before .before .before .before .before .before .before .before .before .before .before .pre .0 .cabinets)
+
+mul-t64 : tie.Need-mul-t64 Inv-loop μ-loop
+mul-t64 c = omega (arith, there (c .before .before .before .before .before .before), c .before .before .before .before .before .before .before .before .before .before .before .before .before .before .before .before .before .before .before .before .before .before .before .before .before .before .before .before .before .pre .0 .cabinets)
+
+element-copy-out-t67 : tie.Need-element-copy-out-t67 Inv-loop μ-loop
+element-copy-out-t67 c = omega (arith, there (c .before .before .before .before .before .before), c .before .before .before .before .before .before .before .before .before .before .before .before .before .before .before .before .before .before .before .before .before .before .before .before .before .before .before .before .before .pre .0 .cabinets)
 
 fetch-keys-requires : tie.Need-fetch-keys-requires Inv-loop μ-loop
 fetch-keys-requires c κs =
@@ -226,7 +226,7 @@ join-child-requires c κs =
     let K = kept (c .before .before .before .before .before .before .before .before .before .before .before .before .before .before .before .before .before .before .before .before .before .before .before) in
     let D = c .before .before .before .before .before .before .before .before .before .before .before .before .before .before .before .before .before .before .before .before .before .before .before .before .before .before .before .before .before .before .before .before .before .before .before .before .before .before .before .before .before .before .pre .1 .1 .0 in
     let C = c .before .before .before .before .before .before .before .before .before .before .before .before .before .before .before .before .before .before .before .before .loop .inv .0 in
-    (joinable (c .before .before .before .before .before .before .before .before .before .before .before .before .before .before .before .before .before .before .before .before .before .before .before .before .before .before .before .before .before .before .before .before .before .before .before .before .before .before .before .before .before .before .args .sums .now) R _ _ C (there (c .before .before .before .before .before .before .before .before .before .before .before .before .before .before .before .before .before .before .before)) (omega (arith, slot-fits (c .before .before .before .before .before .before .before .before .before .before .before .before .before .before .before .before .before .before .before .before .before .before .before .before .before .before .before .before .before .before .before .before .before .before .before .before .before .before .before .before .before .before) .0, same-keys (c .before .before .before .before .before .before .before .before .before .before .before .before .before .before .before .before .before .before .before .before .before .before .before))), (record { for-child = omega (arith, S .for-child, c .before .before .before .before .before .before .before .before .before .before .before .before .before .before .before .before .before .before .before .before .loop .inv .1); for-link = omega (arith, S .for-link, c .before .before .before .before .before .before .before .before .before .before .before .before .before .before .before .before .before .before .before .before .loop .inv .2); for-keys = omega (arith, S .for-keys, c .before .before .before .before .before .before .before .before .fetch-keys .kept .0, c .before .before .before .before .before .before .before .before .before .before .before .before .before .before .before .before .before .before .before .before .loop .inv .3); for-sums = S .for-sums }, (kid-small (c .before .before .before .before .before .before .before .before .before .before .before .before .before .before .before .before .before .before .before .before .before .before .before .before .before .before .before .before .before .before .before .before .before .before .before .before .before .before .before .before .before .before .args .sums .now) R K D C (there (c .before .before .before .before .before .before .before .before .before .before .before .before .before .before .before .before .before .before .before)) (c .before .before .before .before .before .before .before .before .fetch-keys .last .0) (kids (c .before .before .before .before .before .before)), row-small (c .before .before .before .before .before .before .before .before .before .before .before .before .before .before .before .before .before .before .before .before .before .before .before .before .before .before .before .before .before .before .before .before .before .before .before .before .before .before .before .before .before .before .args .sums .now) R K D C (there (c .before .before .before .before .before .before .before .before .before .before .before .before .before .before .before .before .before .before .before)))))
+    (joinable (c .before .before .before .before .before .before .before .before .before .before .before .before .before .before .before .before .before .before .before .before .before .before .before .before .before .before .before .before .before .before .before .before .before .before .before .before .before .before .before .before .before .before .args .sums .now) R _ _ C (there (c .before .before .before .before .before .before .before .before .before .before .before .before .before .before .before .before .before .before .before)) (omega (arith, slot-fits (c .before .before .before .before .before .before .before .before .before .before .before .before .before .before .before .before .before .before .before .before .before .before .before .before .before .before .before .before .before .before .before .before .before .before .before .before .before .before .before .before .before .before) .0, same-keys (c .before .before .before .before .before .before .before .before .before .before .before .before .before .before .before .before .before .before .before .before .before .before .before))) (D .services) (D .row-size), (record { for-child = omega (arith, S .for-child, c .before .before .before .before .before .before .before .before .before .before .before .before .before .before .before .before .before .before .before .before .loop .inv .1); for-link = omega (arith, S .for-link, c .before .before .before .before .before .before .before .before .before .before .before .before .before .before .before .before .before .before .before .before .loop .inv .2); for-keys = omega (arith, S .for-keys, c .before .before .before .before .before .before .before .before .fetch-keys .kept .0, c .before .before .before .before .before .before .before .before .before .before .before .before .before .before .before .before .before .before .before .before .loop .inv .3); for-sums = S .for-sums }, (kid-small (c .before .before .before .before .before .before .before .before .before .before .before .before .before .before .before .before .before .before .before .before .before .before .before .before .before .before .before .before .before .before .before .before .before .before .before .before .before .before .before .before .before .before .args .sums .now) R K D C (there (c .before .before .before .before .before .before .before .before .before .before .before .before .before .before .before .before .before .before .before)) (c .before .before .before .before .before .before .before .before .fetch-keys .last .0) (kids (c .before .before .before .before .before .before)), row-small (c .before .before .before .before .before .before .before .before .before .before .before .before .before .before .before .before .before .before .before .before .before .before .before .before .before .before .before .before .before .before .before .before .before .before .before .before .before .before .before .before .before .before .args .sums .now) R K D C (there (c .before .before .before .before .before .before .before .before .before .before .before .before .before .before .before .before .before .before .before)))))
 
 -- what the row is rebuilt from
 abbrev from : tie.After-slice-known14 Inv-loop μ-loop → Source
@@ -289,10 +289,10 @@ rebuild-spec =
     (tie.spec
     Inv-loop
     μ-loop
-    mul-t27
-    element-copy-out-t30
-    mul-t31
-    element-copy-out-t34
+    mul-t28
+    element-copy-out-t31
+    mul-t32
+    element-copy-out-t35
     mul-index
     element-copy-out-index
     mul-at
@@ -324,14 +324,14 @@ rebuild-spec =
     index-requires-2
     loop-less
     loop-again
-    mul-t49
-    element-copy-out-t53
     mul-t50
-    element-copy-out-t58
-    mul-t59
-    element-copy-out-t62
-    mul-t63
-    element-copy-out-t66
+    element-copy-out-t54
+    mul-t51
+    element-copy-out-t59
+    mul-t60
+    element-copy-out-t63
+    mul-t64
+    element-copy-out-t67
     fetch-keys-requires
     join-child-requires
     add-count

@@ -1,6 +1,7 @@
 -- A row rebuilt from figures and keys of any kind: its own, then those of each child joined to it, in rising order. Nothing is asked of them.
 use Prim.Native.Nat.{ℕ, zero, suc}
-use mathlib.Core.Bool.{Bool, true, false}
+use mathlib.Core.Bool.{Bool, true, false, cond}
+use lib.Dec.{eqb}
 use Rattle.finite.specs.Below.{only, sum-below}
 use Rattle.subsets.specs.Inner.Folds.{earlier, split-key, by-key, best-split, counted-below}
 use Rattle.subsets.specs.declared.Best.{Best}
@@ -31,10 +32,18 @@ rebuilt-key S zero x = S .own-key x
 rebuilt-key S (suc c) x =
     elim (S .child c) [ true ↦ split-key (rebuilt-key S c) (S .key c) x (best-join S (rebuilt-key S c) c x .chosen) | false ↦ rebuilt-key S c x ]
 
--- the entry of the choice table when the child c is joined
+-- the subset of x that stays when the child c is joined
 unfoldable pub rebuilt-choice : Source → ℕ → ℕ → ℕ
 rebuilt-choice S c x = best-join S (rebuilt-key S c) c x .chosen
 
--- the splits counted, over rows of so many sets, for the children below k
+-- the splits counted, over rows of so many sets, when the child c is joined
+unfoldable pub join-count : Source → ℕ → ℕ → ℕ
+join-count S size c = counted-below (rebuilt-row S c) (S .row c) (S .link c) size
+
+-- the entry of the choice table when the child c is joined: the subset that stays, and for the empty set, which none asks for, the count
+unfoldable pub rebuilt-entry : Source → ℕ → ℕ → ℕ → ℕ
+rebuilt-entry S size c x = cond (eqb x 0) (join-count S size c) (rebuilt-choice S c x)
+
+-- the splits counted for the children below k
 unfoldable pub rebuilt-count : Source → ℕ → ℕ → ℕ
-rebuilt-count S size k = sum-below k (λ c. only (S .child c) (counted-below (rebuilt-row S c) (S .row c) (S .link c) size))
+rebuilt-count S size k = sum-below k (λ c. only (S .child c) (join-count S size c))

@@ -74,7 +74,7 @@ returns : tie.Need-returns
 returns c =
     let a = c .before .before .before .before .before .before .before .before .before .before .args in
     let e = row-length (2 * a .size) (a .c % a .rows) (a .keys .now) (fits ((c .before .before .before .before .before .before .before .before .before .before))) in
-    λ N R h x m. rw (lt-ltb (a .c - a .p) (a .rows) (c .before .before .before .before .before .if1 .taken))
+    λ N R h x m. rw (lt-ltb (a .c - a .p) (a .near) (c .before .before .before .before .before .if1 .taken))
     (key-is _ _ (c .before .before .copy-row .ensures (2 * x) (omega arith)) (c .before .before .copy-row .ensures (2 * x + 1) (omega arith)) ∙ slot-key (a .size) (a .c % a .rows) (a .keys .now) (fits ((c .before .before .before .before .before .before .before .before .before .before))) x m)
 
 same-length-2 : tie.Need-same-length-2
@@ -83,7 +83,7 @@ same-length-2 c = search needs
 returns-2 : tie.Need-returns-2
 returns-2 c =
     let a = c .before .before .before .before .before .before .before .before .before .args in
-    λ N R h x m. rw (le-ltb (a .c - a .p) (a .rows) (omega (arith, c .before .before .before .before .if1 .left))) (c .before .before .read-keys .ensures N R h x m)
+    λ N R h x m. rw (le-ltb (a .c - a .p) (a .near) (omega (arith, c .before .before .before .before .if1 .left))) (c .before .before .read-keys .ensures N R h x m)
 
 pub fetch-keys-spec : {M : Type 1} → statement M
 fetch-keys-spec =

@@ -1,13 +1,26 @@
 -- `join_child` meets its contract.
-use Prim.Native.Nat.{_*_}
+use Prim.Native.Nat.{_*_, _^_, _<_}
 use native.Mathlib.Omega.{arith}
 use mathlib.Core.Path.{sym, _∙_}
-use borrow.Author.Needs.{needs}
-use Rattle.rows.proofs.Parted.{row-length, row-entry}
-use Rattle.rows.proofs.Joinable.{joins-child}
-use borrow.Author.Needs.{needs}
+use lib.ListN.{length, length-set}
+use Rattle.rows.proofs.Parted.{put-row, put-length, row-length, row-entry}
+use Rattle.rows.proofs.Joinable.{count-fits, first-in, first-there, joins-child}
+use borrow.Author.Needs.{needs, scaled-fits}
 use Rattle.rows.proofs.tables.join_child.Statement.{statement}
 use Rattle.rows.proofs.tables.join_child.Tie as tie
+
+-- the nodes of the function that its last needs reach back to
+abbrev start-before-slice-known10 : tie.After-slice-known10 → tie.Start
+start-before-slice-known10 c = c .before .before .before .before .before .before .before .before .before .before .before .before .before .before .before .before .before .before .before .before .before .before .before .before .before .before .before .before .before
+
+abbrev copy-row-before-slice-known10 : tie.After-slice-known10 → tie.After-copy-row
+copy-row-before-slice-known10 c = c .before .before .before .before .before .before .before .before .before .before .before .before .before .before .before .before .before .before
+
+abbrev link-row-before-slice-known10 : tie.After-slice-known10 → tie.After-link-row
+link-row-before-slice-known10 c = c .before .before .before .before .before .before .before .before .before .before .before .before .before .before
+
+abbrev join-before-slice-known10 : tie.After-slice-known10 → tie.After-join
+join-before-slice-known10 c = c .before .before .before .before .before .before
 
 mul-at : tie.Need-mul-at
 mul-at c = search needs
@@ -99,11 +112,32 @@ join-requires c κs =
     let link = c .before .before .before .before .before .before .before .link-row .kept .0 in
     ((omega (arith, e, J .sets), row-length (a .size) (a .c) (a .choices .now) (J .choices) ∙ sym e, omega (arith, e, f)), ((omega (arith, e, S .for-child, child), omega (arith, e, S .for-link, link), omega (arith, e, S .for-keys)), (λ i m. rw (row-entry (2 * a .size) (a .q) (a .keys .now) (J .keys) i (omega (arith, e))) (small .1 i (omega (arith, e))), λ i m. small .0 i (omega (arith, e)))))
 
+cast-choices : tie.Need-cast-choices
+cast-choices c =
+    let J = join-before-slice-known10 c .join in
+    omega (arith, count-fits (start-before-slice-known10 c .args .k) (start-before-slice-known10 c .args .sums .now) (start-before-slice-known10 c .args .child-keys .now) (start-before-slice-known10 c .pre .0) (copy-row-before-slice-known10 c .copy-row .last .0) (link-row-before-slice-known10 c .link-row .last .0) (copy-row-before-slice-known10 c .copy-row .ensures) (link-row-before-slice-known10 c .link-row .ensures) _ _ _ (J .result) (J .ensures))
+
+-- the choices take fewer bytes than there are
+room : (c : tie.Start) → length (c .args .choices .now) * 2 < 2 ^ 63
+room c = search needs
+
+mul-choices : tie.Need-mul-choices
+mul-choices c = scaled-fits (start-before-slice-known10 c .args .c * start-before-slice-known10 c .args .size) (length (start-before-slice-known10 c .args .choices .now)) 2 (first-in (start-before-slice-known10 c .args .k) (start-before-slice-known10 c .args .sums .now) (start-before-slice-known10 c .args .child-keys .now) (start-before-slice-known10 c .pre .0) (copy-row-before-slice-known10 c .copy-row .last .0) (link-row-before-slice-known10 c .link-row .last .0) (copy-row-before-slice-known10 c .copy-row .ensures) (link-row-before-slice-known10 c .link-row .ensures)) (room (start-before-slice-known10 c))
+
+slice-write-choices : tie.Need-slice-write-choices
+slice-write-choices c =
+    let J = join-before-slice-known10 c .join in
+    first-there (start-before-slice-known10 c .args .k) (start-before-slice-known10 c .args .sums .now) (start-before-slice-known10 c .args .child-keys .now) (start-before-slice-known10 c .pre .0) (copy-row-before-slice-known10 c .copy-row .last .0) (link-row-before-slice-known10 c .link-row .last .0) (copy-row-before-slice-known10 c .copy-row .ensures) (link-row-before-slice-known10 c .link-row .ensures) (J .last .1 .0) (J .kept .1 .0)
+
 same-length : tie.Need-same-length
 same-length c = search needs
 
 same-length-2 : tie.Need-same-length-2
-same-length-2 c = search needs
+same-length-2 c =
+    let a = start-before-slice-known10 c .args in
+    let J = join-before-slice-known10 c .join in
+    length-set (put-row (a .size) (a .c) (a .choices .now) (J .last .1 .0)) (a .c * a .size) (J .result)
+    ∙ put-length (a .size) (a .c) (a .choices .now) (start-before-slice-known10 c .pre .0 .choices) (J .last .1 .0) (J .kept .1 .0)
 
 same-length-3 : tie.Need-same-length-3
 same-length-3 c = search needs
@@ -115,7 +149,9 @@ same-length-5 : tie.Need-same-length-5
 same-length-5 c = search needs
 
 returns : tie.Need-returns
-returns c = joins-child (c .before .before .before .before .before .before .before .before .before .before .before .before .before .before .before .before .before .before .before .before .before .before .before .before .before .before .before .before .before .args .k) (c .before .before .before .before .before .before .before .before .before .before .before .before .before .before .before .before .before .before .before .before .before .before .before .before .before .before .before .before .before .args .sums .now) (c .before .before .before .before .before .before .before .before .before .before .before .before .before .before .before .before .before .before .before .before .before .before .before .before .before .before .before .before .before .args .child-keys .now) (c .before .before .before .before .before .before .before .before .before .before .before .before .before .before .before .before .before .before .before .before .before .before .before .before .before .before .before .before .before .pre .0) (c .before .before .before .before .before .before .before .before .before .before .before .before .before .before .before .before .before .before .copy-row .last .0) (c .before .before .before .before .before .before .before .before .before .before .before .before .before .before .link-row .last .0) (c .before .before .before .before .before .before .before .before .before .before .before .before .before .before .before .before .before .before .copy-row .ensures) (c .before .before .before .before .before .before .before .before .before .before .before .before .before .before .link-row .ensures) (c .before .before .before .before .before .before .join .last .0) (c .before .before .before .before .before .before .join .last .1 .0) (c .before .before .before .before .before .before .join .last .1 .1 .0) (c .before .before .before .before .before .before .join .result) (c .before .before .before .before .before .before .join .kept .0) (c .before .before .before .before .before .before .join .kept .1 .0) (c .before .before .before .before .before .before .join .kept .1 .1 .0) (c .before .before .before .before .before .before .join .ensures)
+returns c =
+    let J = join-before-slice-known10 c .join in
+    joins-child (start-before-slice-known10 c .args .k) (start-before-slice-known10 c .args .sums .now) (start-before-slice-known10 c .args .child-keys .now) (start-before-slice-known10 c .pre .0) (copy-row-before-slice-known10 c .copy-row .last .0) (link-row-before-slice-known10 c .link-row .last .0) (copy-row-before-slice-known10 c .copy-row .ensures) (link-row-before-slice-known10 c .link-row .ensures) (J .last .0) (J .last .1 .0) (J .last .1 .1 .0) (J .result) (J .kept .0) (J .kept .1 .0) (J .kept .1 .1 .0) (J .ensures)
 
 pub join-child-spec : {M : Type 1} → statement M
 join-child-spec =
@@ -148,6 +184,9 @@ join-child-spec =
     part-join-start-3
     part-join-end-3
     join-requires
+    cast-choices
+    mul-choices
+    slice-write-choices
     same-length
     same-length-2
     same-length-3
