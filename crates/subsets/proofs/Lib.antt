@@ -1,5 +1,5 @@
 -- The laws behind the definitions of specs/. Join has the theorem, Rows the walk over the tree, Count the count, Back the placing read back, Tables one join of the planner, Rebuild a row with all its children.
--- Ties has the best split where keys settle ties, Keys and Order the keys of placings, First the first of the cheapest, KeyTables one join with keys, Digits the placing in a key.
+-- Ties has the best split where keys settle ties, Keys and Order the keys of placings, First the first of the cheapest, KeyTables one join with keys, Digits the placing in a key. Local is about nets that differ at one node.
 pub mod Back
 pub mod Bound
 pub mod Charges
@@ -27,3 +27,4 @@ pub mod KeyParts
 pub mod Digits
 pub mod KeyRows
 pub mod KeyTables
+pub mod Local

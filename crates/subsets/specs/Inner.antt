@@ -13,3 +13,4 @@ pub mod Rebuild
 pub mod Back
 pub mod Keys
 pub mod Kept
+pub mod Local
