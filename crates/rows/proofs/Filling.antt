@@ -85,7 +85,7 @@ module _ (k : Records) (size : ℕ) (sums : List ℕ) (falls : Falls (parent-of 
     }
 
     -- what was built stays built
-    stays-built : (d : ℕ) → p < d → d < k .cabinets → Built k size d sums t u → Built k size d sums t₁ u₁
+    pub stays-built : (d : ℕ) → p < d → d < k .cabinets → Built k size d sums t u → Built k size d sums t₁ u₁
     stays-built d h l D = record {
       costs = λ x i. B .costs .rest d x (λ e. omega arith) i ∙ D .costs x i ∙ row-agrees size _ _ (agrees d (omega arith)) (k .cabinets) x i;
       chosen = λ c x i e j.
@@ -94,7 +94,7 @@ module _ (k : Records) (size : ℕ) (sums : List ℕ) (falls : Falls (parent-of 
     }
 
     -- the row of p is built
-    now-built : Built k size p sums t₁ u₁
+    pub now-built : Built k size p sums t₁ u₁
     now-built = record {
       costs = λ x i. B .costs .row x i ∙ row-agrees size _ _ (agrees p (omega arith)) (k .cabinets) x i;
       chosen = λ c x i e j. B .chosen c x i e j ∙ entry-agrees size _ _ (agrees p (omega arith)) c x e j;

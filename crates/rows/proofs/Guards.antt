@@ -1,9 +1,10 @@
--- The tests at the heads of `fill` and `root_key`, and what they give.
+-- The tests at the heads of `fill`, `rebuild_path` and `root_key`, and what they give.
 use Prim.Native.Nat.{ℕ, _-_, _*_, _^_, _≤_, _<_}
+use native.Mathlib.Nat.{pow-le-pow-right}
 use native.Mathlib.Omega.{arith}
 use mathlib.Core.Logic.{⊎-elim}
-use mathlib.Core.Path.{_≡_, refl, sym, _∙_, subst}
-use mathlib.Core.Bool.{Bool, true, false}
+use mathlib.Core.Path.{_≡_, refl, sym, ap, _∙_, subst}
+use mathlib.Core.Bool.{Bool, true, false, not}
 use mathlib.Core.List.{List}
 use lib.Dec.{leb, ltb}
 use lib.ListN.{length, getD}
@@ -18,12 +19,21 @@ use Rattle.sheet.specs.Limits.{max-services, max-cabinets}
 use Rattle.records.specs.declared.Records.{Records}
 use Rattle.rows.specs.Cabinets as cabinets
 use Rattle.rows.specs.Cabinets.{field, falling}
-use Rattle.rows.specs.Charges.{all-sums}
+use Rattle.rows.specs.Charges.{max-sets, all-sums}
 use Rattle.rows.specs.Keys.{base, low-digits, tree}
 use Rattle.rows.specs.Reads.{ListsOf, Weighted, Readable, Started}
 use Rattle.rows.specs.Rebuilds as rebuilds
-use Rattle.rows.specs.Rebuilds.{entry, has-rows, FillRoom, Fills, FillsRows, fillable, has-root-key, RootKey}
+use Rattle.rows.specs.Rebuilds.{entry, has-rows, RebuildRoom, Scratch, FillRoom, Fills, FillsRows, fillable, has-root-key, RootKey}
+use Rattle.rows.proofs.Slots.{key-places}
 use Rattle.rows.proofs.Rebuilding.{field-at}
+
+-- a test passed, and one that failed
+pub held : (b : Bool) → not b ≡ false → b ≡ true
+held true e = refl
+held false e = clash e
+
+pub failed : (b : Bool) → not b ≡ true → b ≡ true → ⊥
+failed b e q = clash (sym e ∙ ap not q)
 
 -- what holds of 0 and of the first n fields holds of every field
 pub field-all : (P : ℕ → Type 0) (n : ℕ) (l : List ℕ) (i : ℕ) → P 0 → (i < n → P (getD l i 0)) → P (field n l i)
@@ -86,6 +96,32 @@ module _ (k : Records) (sums t u : List ℕ) where
     all-there = P .for-sums;
     falls = parent-lt (k .cabinets) (k .parent) (sym (L .tested) ∙ q);
     links = L .linked q (tree k) refl (λ c z l. sym (field-at (k .cabinets) (k .parent) c l));
+  }
+
+-- what filling asks for is what each row's rebuilding asks for
+module _ {k : Records} {size : ℕ} {t u sums last prior : List ℕ} (P : FillRoom k size t u sums last prior) where
+  -- a row has an entry for each set
+  pub row-sets : (0 < size) × (size ≤ max-sets)
+  row-sets = (omega (arith, P .row-size, pow-pos (k .services)), omega (arith, P .row-size, let z : 2 ^ k .services ≤ 2 ^ max-services = pow-le-pow-right {n = 2} (omega arith) (P .services) in z))
+
+  pub row-rebuilt : (p : ℕ) → p < k .cabinets → (t₁ u₁ : List ℕ) → length t₁ ≡ length t → length u₁ ≡ length u → RebuildRoom k size p t₁ u₁
+  row-rebuilt p h t₁ u₁ lt lu =
+      record { sets = row-sets .1; cabinet = h; cabinets = P .cabinets; costs = omega (arith, P .costs); choices = omega (arith, P .choices) }
+
+  pub row-scratch : (child link kid : List ℕ) → length child ≡ max-sets → length link ≡ max-sets → length kid ≡ key-places → Scratch size child link kid sums
+  row-scratch child link kid lc ll lk =
+      record { for-child = omega (arith, row-sets); for-link = omega (arith, row-sets); for-keys = omega (arith, row-sets); for-sums = P .all-there }
+
+  pub row-readable : (u₁ weights : List ℕ) → length u₁ ≡ length u → Weighted (k .services) size weights → 2 * size ≤ length weights → Readable (tree k) size u₁ last prior weights
+  row-readable u₁ weights lu W lw = record {
+    falls = P .falls;
+    nodes = P .cabinets;
+    services = P .services;
+    row-size = P .row-size;
+    choices = omega (arith, P .choices);
+    links = P .links;
+    weighted = W;
+    weights-length = lw;
   }
 
 module _ (k : Records) (u : List ℕ) where

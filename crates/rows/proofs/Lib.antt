@@ -11,3 +11,4 @@ pub mod Reading
 pub mod Rebuilding
 pub mod Filling
 pub mod Guards
+mod Climbing

@@ -5,3 +5,4 @@ pub mod Keys
 pub mod Reads
 pub mod Joins
 pub mod Rebuilds
+pub mod Paths

@@ -5,6 +5,7 @@ ghost use Rattle.sheet.specs.Limits.{max-services};
 ghost use Rattle.rows.specs.Keys.{tree};
 ghost use Rattle.rows.specs.Reads.{Readable};
 ghost use Rattle.rows.specs.Rebuilds.{source, has-rows, RebuildRoom, Scratch, KeysKept, Rebuilds, FillRoom, Fills, FillsRows, RootKey};
+ghost use Rattle.rows.specs.Paths.{ClimbsRows};
 use records::Records;
 use sheet::Sheet;
 use subsets::Key;
@@ -13,6 +14,7 @@ mod charges; // charges.rt: what a cabinet and a link charge for every set of se
 mod children; // children.rt: the children of each cabinet as lists
 mod joins; // joins.rt: a child's row joined into its parent's
 mod keys; // keys.rt: keys of placings, by which ties are settled
+mod path; // path.rt: the rows from a cabinet up to the root
 mod tables; // tables.rt: one row of both tables
 
 use charges::fill_own;
@@ -20,6 +22,7 @@ use children::children_of;
 use keys::own_keys;
 use keys::read_key;
 use keys::weights_of;
+use path::climb;
 use tables::fetch_keys;
 use tables::join_child;
 
@@ -243,6 +246,41 @@ pub fn fill(costs: &mut [u64], choices: &mut [u16], records: Records, sums: &[u3
         &children.last,
         &children.prior,
         size,
+    )
+}
+
+// Rebuilds the rows of both tables from cabinet e up to the root: its own and those above it, with the choices of all their children. All other rows
+// stay. Where there is no such cabinet, no tree or no room nothing is done.
+pub fn rebuild_path(
+    costs: &mut [u64],
+    choices: &mut [u16],
+    records: Records,
+    sums: &[u32],
+    e: usize,
+)
+    ensures { λ u. ⌜ ClimbsRows records e (now (sums .entry)) (now (costs .entry)) (now (costs .exit)) (now (choices .entry)) (now (choices .exit)) ⌝ }
+{
+    let n = records.cabinets;
+    if n <= e {
+        return;
+    }
+    if !are_rows(records.services, n, sums.len(), costs.len(), choices.len()) {
+        return;
+    }
+    let children = children_of(&records.parent, n);
+    if !children.is_tree {
+        return;
+    }
+    let size = sets_of(records.services);
+    climb(
+        costs,
+        choices,
+        records,
+        sums,
+        &children.last,
+        &children.prior,
+        size,
+        e,
     )
 }
 

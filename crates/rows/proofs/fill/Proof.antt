@@ -6,21 +6,13 @@ use lib.ListN.{length}
 use mathlib.Core.Bool.{Bool, true, false, not}
 use Rattle.finite.proofs.Booleans.{clash, both, both-l, both-r}
 use Rattle.rows.specs.Rebuilds.{has-rows}
-use Rattle.rows.proofs.Guards.{Passed, passed, left-alone, filled, in-room}
+use Rattle.rows.proofs.Guards.{held, failed, Passed, passed, left-alone, filled, in-room}
 use borrow.Author.Needs.{needs}
 use Rattle.rows.proofs.fill.Statement.{statement}
 use Rattle.rows.proofs.fill.Tie as tie
 
 are-rows-requires : tie.Need-are-rows-requires
 are-rows-requires c κs = search needs
-
--- a test passed, and one that failed
-held : (b : Bool) → not b ≡ false → b ≡ true
-held true e = refl
-held false e = clash e
-
-failed : (b : Bool) → not b ≡ true → b ≡ true → ⊥
-failed b e q = clash (sym e ∙ ap not q)
 
 returns : tie.Need-returns
 returns c = left-alone (c .before .before .before .before .before .args .t3) (c .before .before .before .before .before .args .sums .now) (c .before .before .before .before .before .args .costs .now) (c .before .before .before .before .before .args .choices .now) (λ e. failed _ (c .if1 .taken) (c .before .are-rows .ensures ∙ both-l (has-rows (c .before .before .before .before .before .args .t3 .services) (c .before .before .before .before .before .args .t3 .cabinets) (length (c .before .before .before .before .before .args .sums .now)) (length (c .before .before .before .before .before .args .costs .now)) (length (c .before .before .before .before .before .args .choices .now))) _ e))

@@ -15,17 +15,9 @@ use Rattle.rows.specs.Charges.{all-sums}
 use Rattle.rows.specs.Keys.{tree}
 use Rattle.rows.specs.Reads.{Readable}
 use Rattle.rows.specs.Rebuilds.{has-rows}
-use Rattle.rows.proofs.Guards.{Passed, passed, no-key, root-keyed, root-readable, root-started}
+use Rattle.rows.proofs.Guards.{held, failed, Passed, passed, no-key, root-keyed, root-readable, root-started}
 use Rattle.rows.proofs.root_key.Statement.{statement}
 use Rattle.rows.proofs.root_key.Tie as tie
-
--- a test passed, and one that failed
-held : (b : Bool) → not b ≡ false → b ≡ true
-held true e = refl
-held false e = clash e
-
-failed : (b : Bool) → not b ≡ true → b ≡ true → ⊥
-failed b e q = clash (sym e ∙ ap not q)
 
 returns : tie.Need-returns
 returns c = no-key (c .before .before .args .t1) (c .before .before .args .choices .now) (λ e. omega (arith, c .if1 .taken, leb-true 1 (c .before .before .args .t1 .cabinets) (both-l (leb 1 (c .before .before .args .t1 .cabinets)) _ e)))
