@@ -4,4 +4,5 @@ mod Summing
 pub mod Sounding
 mod Filling
 mod Placing
-mod Deciding
+pub mod Deciding
+mod Counting

@@ -3,24 +3,25 @@
 ghost use mathlib.Core.Path.{_≡_};
 ghost use mathlib.Core.Bool.{true};
 ghost use Prim.Native.Nat.{_^_, _≤_, _<_};
-ghost use lib.ListN.{length, replicate};
+ghost use lib.ListN.{length, getD};
 ghost use Rattle.sheet.specs.Limits.{max-services};
+ghost use Rattle.subsets.specs.Inner.Masks.{full};
 ghost use Rattle.subsets.specs.Inner.Count.{weighed};
-ghost use Rattle.core.specs.Tables.{netted, fitting, decided, least, OutputOf, Filled, Keeps, Solves, ReadsBack, Summing};
+ghost use Rattle.core.specs.Tables.{netted, fitting, updatable, decided, read-answer, least, PlacedBy, OutputOf, Filled, Keeps, Solves, Updates};
 use records::Records;
 use rows::SUMS;
-use sheet::Sheet;
 
 mod back; // back.rt: the placing read back from the choice table
 mod sound; // sound.rt: whether records are those of a tree within the limits
 mod sums; // sums.rt: sums over every set of services
-mod tables; // tables.rt: both tables filled and cleared
+mod tables; // tables.rt: both tables filled and cleared, and the counts in them
 
 use back::read_places;
 use sound::is_sound;
 use sums::sums_below;
 use tables::clear_choices;
 use tables::clear_costs;
+use tables::count_joins;
 use tables::fill;
 
 // What the core answers: the cost of a cheapest plan, or that there is none, and the count of the splits weighed; or that the records are
@@ -32,8 +33,8 @@ pub enum Kept {
 }
 
 // Sums over all sets of services, row by row.
-pub struct SetSums {
-    pub of: [u32; SUMS],
+pub(crate) struct SetSums {
+    pub(crate) of: [u32; SUMS],
 }
 
 // A number of 16 bits, wider.
@@ -51,20 +52,6 @@ fn sets_of(r: usize) -> usize
     1 << r
 }
 
-// The sums of all sets, where the counts are within the limits.
-pub fn set_sums(records: Records) -> SetSums
-    ensures { λ s. ⌜ Summing records (s .of) ⌝ }
-{
-    if Sheet::MAX_SERVICES < records.services {
-        return SetSums { of: [0u32; SUMS] };
-    }
-    if Sheet::MAX_STREAMS < records.streams {
-        return SetSums { of: [0u32; SUMS] };
-    }
-    let size = sets_of(records.services);
-    sums_below(records, size)
-}
-
 // Whether the records are sound, and the memory lent is of exactly the size that they need.
 fn fits(records: Records, output: usize, costs: usize, choices: usize) -> bool
     ensures { λ b. ⌜ b ≡ fitting records output costs choices ⌝ }
@@ -74,6 +61,24 @@ fn fits(records: Records, output: usize, costs: usize, choices: usize) -> bool
         (output == records.services) & (costs == entries) & (choices == entries)
     } else {
         false
+    }
+}
+
+// The answer that filled tables tell of, with this count: the cost of all services on the whole tree, and the placing that the choices name.
+fn decide(records: Records, output: &mut [u16], costs: &[u64], choices: &[u16], count: u64) -> Kept
+    requires { ⌜ fitting records (length (now output)) (length (now costs)) (length (now choices)) ≡ true ⌝ }
+    ensures answer { λ a. ⌜ a ≡ read-answer (getD (now (costs .entry)) (full (records .services)) 0) count ⌝ }
+    ensures output { λ a. ⌜ PlacedBy records (now (choices .entry)) a (now (output .entry)) (now (output .exit)) ⌝ }
+{
+    let all = sets_of(records.services) - 1;
+    let cost = costs[all];
+    if subsets::LIMIT < cost {
+        return Kept::NoPlan { count: count };
+    }
+    read_places(output, records, choices);
+    Kept::Plan {
+        cost: cost,
+        count: count,
     }
 }
 
@@ -90,17 +95,26 @@ fn keep_fitting(
     ensures tables { λ a. ⌜ Filled records (now (costs .exit)) (now (choices .exit)) (weighed (netted records)) ⌝ }
 {
     let size = sets_of(records.services);
-    let all = size - 1;
     let count = fill(costs, choices, records, size);
-    let cost = costs[all];
-    if subsets::LIMIT < cost {
-        return Kept::NoPlan { count: count };
-    }
-    read_places(output, records, &choices[..]);
-    Kept::Plan {
-        cost: cost,
-        count: count,
-    }
+    decide(records, output, &costs[..], &choices[..], count)
+}
+
+// Rebuilds the rows of both tables from cabinet e up to the root, and decides.
+fn update_fitting(
+    records: Records,
+    e: usize,
+    output: &mut [u16],
+    costs: &mut [u64],
+    choices: &mut [u16],
+) -> Kept
+    requires { ⌜ updatable records e (length (now output)) (length (now costs)) (length (now choices)) ≡ true ⌝ }
+    ensures { λ a. ⌜ Updates records e (now (output .entry)) (now (output .exit)) (now (costs .entry)) (now (costs .exit)) (now (choices .entry)) (now (choices .exit)) a ⌝ }
+{
+    let size = sets_of(records.services);
+    let sums = sums_below(records, size);
+    rows::rebuild_path(costs, choices, records, &sums.of, e);
+    let count = count_joins(&choices[..], records.cabinets, size);
+    decide(records, output, &costs[..], &choices[..], count)
 }
 
 // Plans, and keeps both tables filled.
@@ -128,21 +142,22 @@ pub fn solve(records: Records, output: &mut [u16], costs: &mut [u64], choices: &
     }
 }
 
-// Clears both tables.
-pub fn clear(costs: &mut [u64], choices: &mut [u16])
-    ensures { λ u. ⌜ (now (costs .exit) ≡ replicate (length (now (costs .entry))) 0) × (now (choices .exit) ≡ replicate (length (now (choices .entry))) 0) ⌝ }
+// Updates tables that are kept of records which differ in cabinet e alone, and plans. The tables may hold anything.
+pub fn update(
+    records: Records,
+    e: usize,
+    output: &mut [u16],
+    costs: &mut [u64],
+    choices: &mut [u16],
+) -> Kept
+    ensures { λ a. ⌜ Updates records e (now (output .entry)) (now (output .exit)) (now (costs .entry)) (now (costs .exit)) (now (choices .entry)) (now (choices .exit)) a ⌝ }
 {
-    clear_costs(costs);
-    clear_choices(choices);
-}
-
-// Reads back the placing of all services on the whole tree, whatever the choices are; where the records are not sound or the memory does not
-// fit them, the output stays.
-pub fn read_back(records: Records, output: &mut [u16], choices: &[u16])
-    ensures { λ u. ⌜ ReadsBack records (now (choices .entry)) (now (output .entry)) (now (output .exit)) ⌝ }
-{
-    let entries = choices.len();
-    if fits(records, output.len(), entries, entries) {
-        read_places(output, records, choices);
+    if records.cabinets <= e {
+        return Kept::Unfit;
+    }
+    if fits(records, output.len(), costs.len(), choices.len()) {
+        update_fitting(records, e, output, costs, choices)
+    } else {
+        Kept::Unfit
     }
 }

@@ -1,7 +1,13 @@
-// Both tables filled and cleared.
+// Both tables filled and cleared, and the counts that stand in the choice table.
 ghost use mathlib.Core.Path.{_≡_};
+ghost use Prim.Native.Nat.{_*_, _≤_, _<_};
+ghost use lib.Dec.{ltb};
 ghost use lib.ListN.{length, replicate};
+ghost use Rattle.finite.specs.Below.{only, sum-below};
+ghost use Rattle.sheet.specs.Limits.{max-cabinets};
+ghost use Rattle.rows.specs.Rebuilds.{entry};
 ghost use Rattle.core.specs.Tables.{Ready, Filled};
+use crate::index;
 use crate::sums::sums_below;
 use records::Records;
 
@@ -13,6 +19,20 @@ pub(crate) fn fill(costs: &mut [u64], choices: &mut [u16], records: Records, siz
     let sums = sums_below(records, size);
     clear_choices(&mut choices[..size]);
     rows::fill(costs, choices, records, &sums.of)
+}
+
+// The sum of the counts of all joins: each stands in the row of its child as the choice of the empty set.
+pub(crate) fn count_joins(choices: &[u16], cabinets: usize, size: usize) -> u64
+    requires { ⌜ (0 < size) × (1 ≤ cabinets) × (cabinets ≤ max-cabinets) × (cabinets * size ≤ length (now choices)) ⌝ }
+    ensures { λ n. ⌜ n ≡ sum-below cabinets (λ c. only (ltb 0 c) (entry size (now (choices .entry)) c 0)) ⌝ }
+{
+    let mut count: u64 = 0;
+    let mut c = 1;
+    while c < cabinets {
+        count += index(choices[c * size]) as u64;
+        c += 1;
+    }
+    count
 }
 
 // Clears a cost table.

@@ -1,9 +1,11 @@
 -- Locality: the row of a node depends only on what the nodes and links under it charge. So where two nets differ at one node e alone, the rows, choices and
 -- counts of all nodes off the path from e to the root are the same.
 use Prim.Native.Nat.{ℕ, zero, suc, _-_, _^_, _<_}
+use native.Mathlib.Omega.{arith}
 use mathlib.Core.Path.{_≡_, refl, sym, ap, ap₂, _∙_, subst}
 use mathlib.Core.Bool.{Bool, true, false, _&&_, cond}
 use lib.Dec.{eqb, ltb}
+use borrow.Author.Tests.{ne-eqb}
 use Rattle.finite.proofs.Booleans.{clash, is-false}
 use Rattle.subsets.specs.Costs.{Cost, some, is-some}
 use Rattle.subsets.specs.Tree.{under}
@@ -109,3 +111,8 @@ unfolding kept-choice
 kept-choice-local b N N₁ e falls D c x z o =
     ap₂ (λ (n a : ℕ). cond (eqb x 0) n a) (pairs-local N N₁ e falls D c o)
     (choice-local (ordered b N) (ordered b N₁) e falls (differ-ordered b e N N₁ D) c x z o)
+
+-- For any set but the empty one it is the subset that stays.
+pub kept-chosen : (b : ℕ) (N : Net) (c x : ℕ) → 0 < x → kept-choice b N c x ≡ choice-at (ordered b N) c x
+unfolding kept-choice
+kept-chosen b N c x z = rw (ne-eqb x 0 (λ e. omega arith)) refl

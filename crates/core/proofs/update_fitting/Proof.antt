@@ -1,0 +1,97 @@
+-- `update_fitting` meets its contract.
+use Prim.Native.Nat.{ℕ, suc, _+_, _-_, _*_, _^_, _≤_, _<_}
+use native.Mathlib.Omega.{arith}
+use mathlib.Core.Path.{_≡_, refl, sym, ap, ap₂, _∙_, subst}
+use borrow.Author.Needs.{needs}
+use lib.ListN.{length, getD, set, length-set}
+use mathlib.Core.Bool.{true}
+use lib.Dec.{ltb}
+use Rattle.finite.specs.Below.{only, sum-below}
+use Rattle.rows.specs.Rebuilds.{entry}
+use lib.Pow.{pow-pos}
+use Rattle.finite.proofs.Booleans.{clash, both, both-l, both-r}
+use Rattle.rows.specs.Paths.{Climbs}
+use Rattle.core.specs.Sums.{SumsOf}
+use Rattle.core.specs.Tables.{counts-in, read-answer}
+use Rattle.core.proofs.Sounding.{Good, good, sets-le}
+use Rattle.core.proofs.Filling.{all-tests, updated}
+use Rattle.core.proofs.Deciding.{Fit, fit, fits-again}
+use borrow.Author.Needs.{needs}
+use Rattle.core.proofs.update_fitting.Statement.{statement}
+use Rattle.core.proofs.update_fitting.Tie as tie
+
+-- what fits
+fitted : (c : tie.Start) → Fit (c .args .records) (length (c .args .output .now)) (length (c .args .costs .now)) (length (c .args .choices .now))
+fitted c = fit _ _ _ _ (both-r (ltb (c .args .e) (c .args .records .cabinets)) _ (c .pre))
+
+sounds : (c : tie.Start) → Good (c .args .records)
+sounds c = good _ (fitted c .is-sound)
+
+sets-of-requires : tie.Need-sets-of-requires
+sets-of-requires c κs = sounds ((c .before .before .before)) .services
+
+sums-below-requires : tie.Need-sums-below-requires
+sums-below-requires c κs =
+    let G = sounds ((c .before .before .before .before)) in
+    (omega (arith, c .sets-of .ensures, sets-le _ G), G .services, G .streams)
+
+rebuild-path-requires : tie.Need-rebuild-path-requires
+rebuild-path-requires c κs = search needs
+
+-- the sums of all sets
+summed : (c : tie.After-rebuild-path) → SumsOf (c .before .before .before .before .before .before .before .before .before .before .before .args .records) (2 ^ c .before .before .before .before .before .before .before .before .before .before .before .args .records .services) (c .before .before .before .before .before .before .sums-below .result .of)
+summed c = subst (λ (z : ℕ). SumsOf (c .before .before .before .before .before .before .before .before .before .before .before .args .records) z (c .before .before .before .before .before .before .sums-below .result .of)) (c .before .before .before .before .before .before .before .sets-of .ensures) (c .before .before .before .before .before .before .sums-below .ensures)
+
+-- the rows on the path are built
+climbs : (c : tie.After-rebuild-path) → Climbs (c .before .before .before .before .before .before .before .before .before .before .before .args .records) (2 ^ c .before .before .before .before .before .before .before .before .before .before .before .args .records .services) (c .before .before .before .before .before .before .before .before .before .before .before .args .e) (c .before .before .before .before .before .before .sums-below .result .of) (c .before .before .before .before .before .before .before .before .before .before .before .args .costs .now) (c .rebuild-path .last .0) (c .before .before .before .before .before .before .before .before .before .before .before .args .choices .now) (c .rebuild-path .last .1 .0)
+climbs c =
+    let F = fitted ((c .before .before .before .before .before .before .before .before .before .before .before)) in
+    c .rebuild-path .ensures .done (both (ltb (c .before .before .before .before .before .before .before .before .before .before .before .args .e) (c .before .before .before .before .before .before .before .before .before .before .before .args .records .cabinets)) _ (both-l (ltb (c .before .before .before .before .before .before .before .before .before .before .before .args .e) (c .before .before .before .before .before .before .before .before .before .before .before .args .records .cabinets)) _ (c .before .before .before .before .before .before .before .before .before .before .before .pre)) (all-tests (c .before .before .before .before .before .before .before .before .before .before .before .args .records) (F .is-sound) (sounds ((c .before .before .before .before .before .before .before .before .before .before .before))) _ _ _ (summed c .size) (F .costs-size) (F .choices-size)))
+
+count-joins-requires : tie.Need-count-joins-requires
+count-joins-requires c κs =
+    let F = fitted ((c .before .before .before .before .before .before .before .before .before .before .before .before .before .before .before .before)) in
+    let G = sounds ((c .before .before .before .before .before .before .before .before .before .before .before .before .before .before .before .before)) in
+    let e = c .before .before .before .before .before .before .before .before .before .before .before .before .sets-of .ensures in
+    (omega (arith, e, pow-pos (c .before .before .before .before .before .before .before .before .before .before .before .before .before .before .before .before .args .records .services)), G .some-cabinet, G .cabinets, omega (arith, c .before .before .before .before .before .rebuild-path .kept .1 .0, F .choices-size, ap (λ (n : ℕ). c .before .before .before .before .before .before .before .before .before .before .before .before .before .before .before .before .args .records .cabinets * n) e))
+
+decide-requires : tie.Need-decide-requires
+decide-requires c κs = fits-again (c .before .before .before .before .before .before .before .before .before .before .before .before .before .before .before .before .before .before .before .before .args .records) _ _ _ (both-r (ltb (c .before .before .before .before .before .before .before .before .before .before .before .before .before .before .before .before .before .before .before .before .args .e) (c .before .before .before .before .before .before .before .before .before .before .before .before .before .before .before .before .before .before .before .before .args .records .cabinets)) _ (c .before .before .before .before .before .before .before .before .before .before .before .before .before .before .before .before .before .before .before .before .pre)) _ _ (c .before .before .before .before .before .before .before .before .before .rebuild-path .kept .0) (c .before .before .before .before .before .before .before .before .before .rebuild-path .kept .1 .0)
+
+same-length : tie.Need-same-length
+same-length c = search needs
+
+same-length-2 : tie.Need-same-length-2
+same-length-2 c = search needs
+
+same-length-3 : tie.Need-same-length-3
+same-length-3 c = search needs
+
+returns : tie.Need-returns
+returns c =
+    let k = c .before .before .before .before .before .before .before .before .before .before .before .before .before .before .before .before .before .before .before .before .before .before .before .args .records in
+    let C = climbs ((c .before .before .before .before .before .before .before .before .before .before .before .before)) in
+    let D = c .before .before .decide .ensures in
+    let n = c .before .before .before .before .before .before .count-joins .ensures ∙ ap (λ (z : ℕ). sum-below (k .cabinets) (λ d. only (ltb 0 d) (entry z (c .before .before .before .before .before .before .before .before .before .before .before .before .rebuild-path .last .1 .0) d 0))) (c .before .before .before .before .before .before .before .before .before .before .before .before .before .before .before .before .before .before .before .sets-of .ensures) in
+    record {
+      answer = λ p. D .0 ∙ ap (read-answer (getD (c .before .before .before .before .before .before .before .before .before .before .before .before .rebuild-path .last .0) (2 ^ k .services - 1) 0)) n;
+      output = λ p. D .1;
+      costs = λ p. C .costs;
+      choices = λ p. C .choices;
+      tables = λ p N E H. updated k (sounds ((c .before .before .before .before .before .before .before .before .before .before .before .before .before .before .before .before .before .before .before .before .before .before .before))) (summed ((c .before .before .before .before .before .before .before .before .before .before .before .before))) (c .before .before .before .before .before .before .before .before .before .before .before .before .before .before .before .before .before .before .before .before .before .before .before .args .e) C N E H;
+      left = λ p. clash (sym (c .before .before .before .before .before .before .before .before .before .before .before .before .before .before .before .before .before .before .before .before .before .before .before .pre) ∙ p);
+    }
+
+pub update-fitting-spec : {M : Type 1} → statement M
+update-fitting-spec =
+    tie.close
+    (tie.spec
+    sets-of-requires
+    sums-below-requires
+    rebuild-path-requires
+    count-joins-requires
+    decide-requires
+    same-length
+    same-length-2
+    same-length-3
+    returns)
