@@ -7,7 +7,7 @@ use mathlib.Core.Bool.{Bool, true, false, _||_}
 use mathlib.Core.List.{List, _++_, append-nil}
 use lib.Dec.{leb, ltb}
 use lib.Bits.{bitAnd}
-use lib.ListN.{length, getD, replicate, drop-of-length-le}
+use lib.ListN.{length, getD, drop-of-length-le}
 use borrow.Author.Tests.{eq-eqb, ne-eqb, le-leb, leb-false, lt-ltb}
 use Rattle.finite.proofs.Tests.{all-in}
 use Rattle.finite.specs.Below.{only}
@@ -50,11 +50,14 @@ use Rattle.core.specs.declared.Kept.the-variants as kept
 use Rattle.core.proofs.Sounding.{Good, good, field-in}
 use Rattle.planner.specs.Answers.{entries, solved}
 use Rattle.planner.specs.Lent.{OutputAfter}
+use Rattle.planner.specs.Kept.{kept-costs, kept-choices}
 use Rattle.planner.specs.Inner.Tables.{cost-entry, choice-entry, Filled}
+use Rattle.planner.specs.Inner.Fronts.{front-of}
 use Rattle.records.specs.Told.{told}
 use Rattle.records.proofs.Bars.{set-barred, bars-there}
 use Rattle.planner.specs.Inner.Decided.{planned-of}
 use Rattle.planner.proofs.Solving.{root-cheapest}
+use Rattle.planner.proofs.Listed.{listed}
 
 -- ---- an instance's count
 
@@ -243,34 +246,6 @@ told-sound k W =
 
 -- ---- the calls
 
--- A keeping call on a well-formed instance's records, with memory of the size that it needs.
-pub record Kept-of (k : Records) (o o' t' u' : List ℕ) (a : Kept) : Type 0 where
-  pub answer : planned-of a ≡ solved (cheapest (told k)) (weighed (told k))
-  pub plan : (c n : ℕ) → a ≡ kept.Plan c n → o' ≡ places (told k .r) (first-plan (told k))
-  pub tables : Filled (told k) t' u' (weighed (told k))
-
-pub keeps-instance : (k : Records) (o o' t t' u u' : List ℕ) (a : Kept) → WellFormed (told k) → length o ≡ told k .r → length t ≡ entries (told k) → length u ≡ entries (told k)
-    → length o' ≡ length o → Keeps k o o' t t' u u' a → Kept-of k o o' t' u' a
-unfolding told tables.fitting
-keeps-instance k o o' t t' u u' a W lo lt lu same K = record {
-  answer = ap planned-of (K .answer fit) ∙ kept-answer k s;
-  plan = λ c n e. kept-output k s c n o o' (same ∙ lo) (sym e ∙ K .answer fit) (subst (λ (b : Kept). OutputOf k b o o') e (K .output fit));
-  tables = subst (Filled (told k) t' u') (same-count k s) (kept-tables k s t' u' _ (K .tables fit));
-}
-  where
-    s : sound k ≡ true
-    s = told-sound k W
-
-    fit : fitting k (length o) (length t) (length u) ≡ true
-    fit = rw (s, eq-eqb (length o) (k .services) lo, eq-eqb (length t) (k .cabinets * 2 ^ k .services) lt, eq-eqb (length u) (k .cabinets * 2 ^ k .services) lu) refl
-
--- A solving call on a well-formed instance's records, with memory of the size that it needs.
-pub record Solved-of (k : Records) (o o' t' u' : List ℕ) (a : Kept) : Type 0 where
-  pub answer : planned-of a ≡ solved (cheapest (told k)) (weighed (told k))
-  pub output : OutputAfter (told k) (planned-of a) o o'
-  pub costs : t' ≡ replicate (entries (told k)) 0
-  pub choices : u' ≡ replicate (entries (told k)) 0
-
 after-plan : (k : Records) (s : sound k ≡ true) (o o' : List ℕ) → length o ≡ told k .r → length o' ≡ length o → (a : Kept)
     → a ≡ decided (least k) (counts.weighed (netted k)) → OutputOf k a o o' → OutputAfter (told k) (planned-of a) o o'
 after-plan k s o o' lo same (kept.Plan c n) e H =
@@ -279,18 +254,39 @@ after-plan k s o o' lo same (kept.Plan c n) e H =
 after-plan k s o o' lo same (kept.NoPlan n) e H = H
 after-plan k s o o' lo same kept.Unfit e H = H
 
-pub solves-instance : (k : Records) (o o' t t' u u' : List ℕ) (a : Kept) → WellFormed (told k) → length o ≡ told k .r → length t ≡ entries (told k) → length u ≡ entries (told k)
-    → length o' ≡ length o → Solves k o o' t t' u u' a → Solved-of k o o' t' u' a
-unfolding told tables.fitting
-solves-instance k o o' t t' u u' a W lo lt lu same K = record {
-  answer = ap planned-of (K .answer fit) ∙ kept-answer k s;
-  output = after-plan k s o o' lo same a (K .answer fit) (K .output fit);
-  costs = K .tables fit .0;
-  choices = K .tables fit .1;
-}
-  where
-    s : sound k ≡ true
-    s = told-sound k W
+-- A call on a well-formed instance's records, with memory of the size that it needs: what it answers, writes, and keeps or clears.
+pub record Left-of (keeps : Bool) (k : Records) (o o' t' u' : List ℕ) (a : Kept) : Type 0 where
+  pub answer : planned-of a ≡ solved (cheapest (told k)) (weighed (told k))
+  pub output : OutputAfter (told k) (planned-of a) o o'
+  pub costs : t' ≡ front-of (told k) keeps (kept-costs (told k))
+  pub choices : u' ≡ front-of (told k) keeps (kept-choices (told k))
 
-    fit : fitting k (length o) (length t) (length u) ≡ true
-    fit = rw (s, eq-eqb (length o) (k .services) lo, eq-eqb (length t) (k .cabinets * 2 ^ k .services) lt, eq-eqb (length u) (k .cabinets * 2 ^ k .services) lu) refl
+module _ (k : Records) (o o' t t' u u' : List ℕ) (a : Kept) (W : WellFormed (told k)) (lo : length o ≡ told k .r) (lt : length t ≡ entries (told k))
+    (lu : length u ≡ entries (told k)) (same : length o' ≡ length o) where
+  passed : sound k ≡ true
+  passed = told-sound k W
+
+  fit : fitting k (length o) (length t) (length u) ≡ true
+  unfolding told tables.fitting
+  fit = rw (passed, eq-eqb (length o) (k .services) lo, eq-eqb (length t) (k .cabinets * 2 ^ k .services) lt, eq-eqb (length u) (k .cabinets * 2 ^ k .services) lu) refl
+
+  -- A keeping call.
+  pub keeps-instance : length t' ≡ length t → length u' ≡ length u → Keeps k o o' t t' u u' a → Left-of true k o o' t' u' a
+  unfolding kept-costs kept-choices
+  keeps-instance st su K =
+      let F = kept-tables k passed t' u' _ (K .tables fit) in record {
+        answer = ap planned-of (K .answer fit) ∙ kept-answer k passed;
+        output = after-plan k passed o o' lo same a (K .answer fit) (K .output fit);
+        costs = listed (told k) (cost-entry (told k)) t' (F .costs) (st ∙ lt);
+        choices = listed (told k) (choice-entry (told k)) u' (F .choices) (su ∙ lu);
+      }
+
+  -- A solving call.
+  pub solves-instance : Solves k o o' t t' u u' a → Left-of false k o o' t' u' a
+  unfolding told
+  solves-instance K = record {
+    answer = ap planned-of (K .answer fit) ∙ kept-answer k passed;
+    output = after-plan k passed o o' lo same a (K .answer fit) (K .output fit);
+    costs = K .tables fit .0;
+    choices = K .tables fit .1;
+  }

@@ -6,7 +6,7 @@ use mathlib.Core.Path.{_≡_, refl, sym, ap, _∙_}
 use mathlib.Core.Bool.{true, _||_}
 use mathlib.Core.List.{List, _++_, append-nil}
 use lib.Dec.{ltb}
-use lib.ListN.{take, drop, replicate, length-take, drop-of-length-le, take-append-drop}
+use lib.ListN.{take, drop, length-take, drop-of-length-le, take-append-drop}
 use borrow.Author.Tests.{lt-ltb, le-ltb, ne-eqb}
 use Rattle.finite.proofs.Booleans.{clash, either-r, neither}
 use Rattle.subsets.specs.Costs.{Cost, none, some}
@@ -24,7 +24,7 @@ use Rattle.embedding.specs.Splits.{weighed}
 use Rattle.planner.specs.declared.Planned.{Planned}
 use Rattle.planner.specs.declared.Planned.the-variants.{Plan, Refused}
 use Rattle.planner.specs.Answers.{entries, lender-rules, solved, lent}
-use Rattle.planner.specs.Lent.{used, table-after, OutputAfter}
+use Rattle.planner.specs.Lent.{used, front-after, OutputAfter}
 
 -- a row has at most as many entries as there can be sets
 pub sets-le : (I : Instance) → WellFormed I → 2 ^ I .r ≤ 2 ^ max-services
@@ -55,9 +55,9 @@ unfolding refusal
 solved-used none n = refl
 solved-used (some k) n = refl
 
--- a table whose first part was cleared
-pub table-lifted : (I : Instance) (a : Planned) (f : Cost) (n : ℕ) (table part : List ℕ) → a ≡ solved f n → part ≡ replicate (entries I) 0 → part ++ drop (entries I) table ≡ table-after I a table
-table-lifted I a f n table part e p =
+-- a table of which the first part was used
+pub table-lifted : (I : Instance) (a : Planned) (f : Cost) (n : ℕ) (front table part : List ℕ) → a ≡ solved f n → part ≡ front → part ++ drop (entries I) table ≡ front-after I a front table
+table-lifted I a f n front table part e p =
     rw (ap used e ∙ solved-used f n) (ap (λ (l : List ℕ). l ++ drop (entries I) table) p)
 
 -- the output whose first part was written
@@ -68,5 +68,5 @@ output-lifted I (Plan k n) output part s =
 output-lifted I (Refused f n) output part s = ap (λ (l : List ℕ). l ++ drop (I .r) output) s ∙ take-append-drop (I .r) output
 
 -- with a refusal that the reader gave the tables are not used
-pub handed-on : (I : Instance) (bytes : List ℕ) (f : Refusal) (table : List ℕ) → reading bytes ≡ readers.Refused f → table ≡ table-after I (Refused f 0) table
-handed-on I bytes f table e = rw (ne-eqb (number-of f) 12 (λ q. clash (sym (reading-number bytes f e) ∙ ap (one-of reader-numbers) q)))
+pub handed-on : (I : Instance) (bytes : List ℕ) (f : Refusal) (front table : List ℕ) → reading bytes ≡ readers.Refused f → table ≡ front-after I (Refused f 0) front table
+handed-on I bytes f front table e = rw (ne-eqb (number-of f) 12 (λ q. clash (sym (reading-number bytes f e) ∙ ap (one-of reader-numbers) q)))

@@ -16,9 +16,13 @@ abbrev pub used : Planned → Bool
 used (Plan k n) = true
 used (Refused f n) = eqb (number (Refused f n)) 12
 
--- a table after the call: its first s × 2^r entries are 0 where it was used, and all other places stay
+-- a table after a call: where it was used these entries are its first s × 2^r, and all other places stay
+abbrev pub front-after : Instance → Planned → List ℕ → List ℕ → List ℕ
+front-after I answer front table = cond (used answer) (front ++ drop (entries I) table) table
+
+-- a table after a planning call: its first s × 2^r entries are 0 where it was used
 abbrev pub table-after : Instance → Planned → List ℕ → List ℕ
-table-after I answer table = cond (used answer) (replicate (entries I) 0 ++ drop (entries I) table) table
+table-after I answer table = front-after I answer (replicate (entries I) 0) table
 
 -- the output after the call: with a plan its first r places are the first of the cheapest plans, and all other places stay; with a refusal all places
 -- stay

@@ -1,16 +1,18 @@
 // The planner: the first of the cheapest plans of a sheet, with the count of the splits weighed for it, and the bound of that count.
 ghost use mathlib.Core.Path.{_≡_};
 ghost use Prim.Native.Nat.{_^_, _≤_};
-ghost use lib.ListN.{length, replicate};
+ghost use lib.ListN.{length};
 ghost use Rattle.sheet.specs.Instance.{WellFormed, instance};
 ghost use Rattle.sheet.specs.Limits.{max-services};
 ghost use Rattle.sheet.specs.Refusals.{first-applying};
 ghost use Rattle.embedding.specs.Plan.{cheapest};
 ghost use Rattle.embedding.specs.Splits.{weighed};
 ghost use Rattle.planner.specs.Answers.{entries, lender-rules, solved, lent, planned};
-ghost use Rattle.planner.specs.Lent.{table-after, OutputAfter};
+ghost use Rattle.planner.specs.Lent.{front-after, table-after, OutputAfter};
+ghost use Rattle.planner.specs.Kept.{kept-costs, kept-choices};
 ghost use Rattle.planner.specs.Bounds.{split-bound};
 ghost use Rattle.planner.specs.Inner.Decided.{planned-of};
+ghost use Rattle.planner.specs.Inner.Fronts.{front-of};
 ghost use Rattle.records.specs.Told.{told};
 use core::Kept;
 use records::Records;
@@ -52,18 +54,27 @@ fn answer_of(kept: Kept) -> Planned
     }
 }
 
-// Plans with exactly as much memory as is needed, and clears both tables.
-fn solve(records: Records, output: &mut [u16], costs: &mut [u64], choices: &mut [u16]) -> Planned
+// Plans with exactly as much memory as is needed, and keeps both tables as they were filled or clears them.
+fn solve(
+    records: Records,
+    output: &mut [u16],
+    costs: &mut [u64],
+    choices: &mut [u16],
+    keeps: bool,
+) -> Planned
     requires instance { ⌜ WellFormed (told records) ⌝ }
     requires output { ⌜ length (now output) ≡ told records .r ⌝ }
     requires tables { ⌜ (length (now costs) ≡ entries (told records)) × (length (now choices) ≡ entries (told records)) ⌝ }
     ensures answer { λ a. ⌜ a ≡ solved (cheapest (told records)) (weighed (told records)) ⌝ }
     ensures output { λ a. ⌜ OutputAfter (told records) a (now (output .entry)) (now (output .exit)) ⌝ }
-    ensures costs { λ a. ⌜ now (costs .exit) ≡ replicate (entries (told records)) 0 ⌝ }
-    ensures choices { λ a. ⌜ now (choices .exit) ≡ replicate (entries (told records)) 0 ⌝ }
+    ensures costs { λ a. ⌜ now (costs .exit) ≡ front-of (told records) keeps (kept-costs (told records)) ⌝ }
+    ensures choices { λ a. ⌜ now (choices .exit) ≡ front-of (told records) keeps (kept-choices (told records)) ⌝ }
 {
-    let kept = core::solve(records, output, costs, choices);
-    answer_of(kept)
+    if keeps {
+        answer_of(core::keep(records, output, costs, choices))
+    } else {
+        answer_of(core::solve(records, output, costs, choices))
+    }
 }
 
 // Plans the records of a sheet, where the memory lent suffices.
@@ -72,12 +83,13 @@ fn plan_records(
     output: &mut [u16],
     costs: &mut [u64],
     choices: &mut [u16],
+    keeps: bool,
 ) -> Planned
     requires { ⌜ WellFormed (told records) ⌝ }
     ensures answer { λ a. ⌜ a ≡ lent (first-applying (lender-rules (told records) (length (now (output .entry))) (length (now (costs .entry))) (length (now (choices .entry))))) (told records) ⌝ }
     ensures output { λ a. ⌜ OutputAfter (told records) a (now (output .entry)) (now (output .exit)) ⌝ }
-    ensures costs { λ a. ⌜ now (costs .exit) ≡ table-after (told records) a (now (costs .entry)) ⌝ }
-    ensures choices { λ a. ⌜ now (choices .exit) ≡ table-after (told records) a (now (choices .entry)) ⌝ }
+    ensures costs { λ a. ⌜ now (costs .exit) ≡ front-after (told records) a (front-of (told records) keeps (kept-costs (told records))) (now (costs .entry)) ⌝ }
+    ensures choices { λ a. ⌜ now (choices .exit) ≡ front-after (told records) a (front-of (told records) keeps (kept-choices (told records))) (now (choices .entry)) ⌝ }
 {
     let r = records.services;
     let entries = records.cabinets * sets_of(r);
@@ -95,15 +107,22 @@ fn plan_records(
         &mut output[..r],
         &mut costs[..entries],
         &mut choices[..entries],
+        keeps,
     )
 }
 
-// Writes the first of the cheapest plans of the sheet to the output. Each table has one row a cabinet, with an entry for every set of services.
-pub fn plan(sheet: &[u8], output: &mut [u16], costs: &mut [u64], choices: &mut [u16]) -> Planned
+// Plans a sheet, and keeps both tables as they were filled or clears them.
+fn run(
+    sheet: &[u8],
+    output: &mut [u16],
+    costs: &mut [u64],
+    choices: &mut [u16],
+    keeps: bool,
+) -> Planned
     ensures answer { λ a. ⌜ a ≡ planned (now (sheet .entry)) (length (now (output .entry))) (length (now (costs .entry))) (length (now (choices .entry))) ⌝ }
     ensures output { λ a. ⌜ OutputAfter (instance (now (sheet .entry))) a (now (output .entry)) (now (output .exit)) ⌝ }
-    ensures costs { λ a. ⌜ now (costs .exit) ≡ table-after (instance (now (sheet .entry))) a (now (costs .entry)) ⌝ }
-    ensures choices { λ a. ⌜ now (choices .exit) ≡ table-after (instance (now (sheet .entry))) a (now (choices .entry)) ⌝ }
+    ensures costs { λ a. ⌜ now (costs .exit) ≡ front-after (instance (now (sheet .entry))) a (front-of (instance (now (sheet .entry))) keeps (kept-costs (instance (now (sheet .entry))))) (now (costs .entry)) ⌝ }
+    ensures choices { λ a. ⌜ now (choices .exit) ≡ front-after (instance (now (sheet .entry))) a (front-of (instance (now (sheet .entry))) keeps (kept-choices (instance (now (sheet .entry))))) (now (choices .entry)) ⌝ }
 {
     let loaded = records::load(sheet);
     let answer = loaded.answer;
@@ -114,7 +133,27 @@ pub fn plan(sheet: &[u8], output: &mut [u16], costs: &mut [u64], choices: &mut [
         };
         return Planned::Refused(refusal, 0);
     };
-    plan_records(loaded.records, output, costs, choices)
+    plan_records(loaded.records, output, costs, choices, keeps)
+}
+
+// Writes the first of the cheapest plans of the sheet to the output. Each table has one row a cabinet, with an entry for every set of services.
+pub fn plan(sheet: &[u8], output: &mut [u16], costs: &mut [u64], choices: &mut [u16]) -> Planned
+    ensures answer { λ a. ⌜ a ≡ planned (now (sheet .entry)) (length (now (output .entry))) (length (now (costs .entry))) (length (now (choices .entry))) ⌝ }
+    ensures output { λ a. ⌜ OutputAfter (instance (now (sheet .entry))) a (now (output .entry)) (now (output .exit)) ⌝ }
+    ensures costs { λ a. ⌜ now (costs .exit) ≡ table-after (instance (now (sheet .entry))) a (now (costs .entry)) ⌝ }
+    ensures choices { λ a. ⌜ now (choices .exit) ≡ table-after (instance (now (sheet .entry))) a (now (choices .entry)) ⌝ }
+{
+    run(sheet, output, costs, choices, false)
+}
+
+// The same as `plan`, but both tables are kept as they were filled.
+pub fn keep(sheet: &[u8], output: &mut [u16], costs: &mut [u64], choices: &mut [u16]) -> Planned
+    ensures answer { λ a. ⌜ a ≡ planned (now (sheet .entry)) (length (now (output .entry))) (length (now (costs .entry))) (length (now (choices .entry))) ⌝ }
+    ensures output { λ a. ⌜ OutputAfter (instance (now (sheet .entry))) a (now (output .entry)) (now (output .exit)) ⌝ }
+    ensures costs { λ a. ⌜ now (costs .exit) ≡ front-after (instance (now (sheet .entry))) a (kept-costs (instance (now (sheet .entry)))) (now (costs .entry)) ⌝ }
+    ensures choices { λ a. ⌜ now (choices .exit) ≡ front-after (instance (now (sheet .entry))) a (kept-choices (instance (now (sheet .entry)))) (now (choices .entry)) ⌝ }
+{
+    run(sheet, output, costs, choices, true)
 }
 
 // The bound of the count for so many services and cabinets.

@@ -11,7 +11,9 @@ use Rattle.records.specs.Told.{told}
 use Rattle.embedding.specs.Plan.{cheapest}
 use Rattle.embedding.specs.Splits.{weighed}
 use Rattle.planner.specs.Answers.{entries}
-use Rattle.planner.specs.Lent.{table-after}
+use Rattle.planner.specs.Lent.{front-after}
+use Rattle.planner.specs.Kept.{kept-costs, kept-choices}
+use Rattle.planner.specs.Inner.Fronts.{front-of}
 use Rattle.planner.proofs.Lending.{sets-le, short-output, short-costs, short-choices, enough, table-lifted, output-lifted}
 use Rattle.planner.proofs.plan_records.Statement.{statement}
 use Rattle.planner.proofs.plan_records.Tie as tie
@@ -155,10 +157,10 @@ returns-4 c =
       (
         output-lifted I (solve-before-slice-known6 c .solve .result) (a .output .now) part (S .1 .0),
         (
-          subst (λ (m : ℕ). solve-before-slice-known6 c .solve .last .1 .1 .0 ++ drop m (a .costs .now) ≡ table-after I (solve-before-slice-known6 c .solve .result) (a .costs .now)) (sym n)
-              (table-lifted I (solve-before-slice-known6 c .solve .result) (cheapest I) (weighed I) (a .costs .now) (solve-before-slice-known6 c .solve .last .1 .1 .0) (S .0) (S .1 .1 .0)),
-          subst (λ (m : ℕ). solve-before-slice-known6 c .solve .last .1 .1 .1 .0 ++ drop m (a .choices .now) ≡ table-after I (solve-before-slice-known6 c .solve .result) (a .choices .now)) (sym n)
-              (table-lifted I (solve-before-slice-known6 c .solve .result) (cheapest I) (weighed I) (a .choices .now) (solve-before-slice-known6 c .solve .last .1 .1 .1 .0) (S .0) (S .1 .1 .1)),
+          subst (λ (m : ℕ). solve-before-slice-known6 c .solve .last .1 .1 .0 ++ drop m (a .costs .now) ≡ front-after I (solve-before-slice-known6 c .solve .result) (front-of I (a .keeps) (kept-costs I)) (a .costs .now)) (sym n)
+              (table-lifted I (solve-before-slice-known6 c .solve .result) (cheapest I) (weighed I) (front-of I (a .keeps) (kept-costs I)) (a .costs .now) (solve-before-slice-known6 c .solve .last .1 .1 .0) (S .0) (S .1 .1 .0)),
+          subst (λ (m : ℕ). solve-before-slice-known6 c .solve .last .1 .1 .1 .0 ++ drop m (a .choices .now) ≡ front-after I (solve-before-slice-known6 c .solve .result) (front-of I (a .keeps) (kept-choices I)) (a .choices .now)) (sym n)
+              (table-lifted I (solve-before-slice-known6 c .solve .result) (cheapest I) (weighed I) (front-of I (a .keeps) (kept-choices I)) (a .choices .now) (solve-before-slice-known6 c .solve .last .1 .1 .1 .0) (S .0) (S .1 .1 .1)),
         ),
       ),
     )

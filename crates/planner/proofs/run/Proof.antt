@@ -1,4 +1,4 @@
--- `plan` meets its contract.
+-- `run` meets its contract.
 use Prim.Native.Nat.{_-_}
 use mathlib.Core.Path.{_≡_, refl, sym, ap, _∙_, subst}
 use borrow.Author.Needs.{needs}
@@ -8,11 +8,13 @@ use Rattle.sheet.specs.declared.Reading.{Reading}
 use Rattle.sheet.proofs.Promises.{well-formed}
 use Rattle.planner.specs.Answers as answers
 use Rattle.planner.specs.Answers.{planned, lent, lender-rules}
-use Rattle.planner.specs.Lent.{table-after, OutputAfter}
+use Rattle.planner.specs.Lent.{front-after, OutputAfter}
+use Rattle.planner.specs.Kept.{kept-costs, kept-choices}
+use Rattle.planner.specs.Inner.Fronts.{front-of}
 use Rattle.sheet.specs.Refusals.{first-applying}
 use Rattle.planner.proofs.Lending.{handed-on}
-use Rattle.planner.proofs.plan.Statement.{statement}
-use Rattle.planner.proofs.plan.Tie as tie
+use Rattle.planner.proofs.run.Statement.{statement}
+use Rattle.planner.proofs.run.Tie as tie
 
 -- the nodes of the function that its needs reach back to
 abbrev answer-before-known-told2 : tie.After-known-told2 → tie.After-answer
@@ -70,7 +72,7 @@ returns-2 c =
     let I = instance (a .sheet .now) in
     let e = sym (load-before-known-told2 c .load .ensures .0) ∙ answer-before-known-told2 c .answer .given .1 ∙ c .before .answer2 .given .1 in (
       sym (ap (λ (o : Reading). answers.answered o I (length (a .output .now)) (length (a .costs .now)) (length (a .choices .now))) e),
-      (refl, (handed-on I (a .sheet .now) _ (a .costs .now) e, handed-on I (a .sheet .now) _ (a .choices .now) e)),
+      (refl, (handed-on I (a .sheet .now) _ (front-of I (a .keeps) (kept-costs I)) (a .costs .now) e, handed-on I (a .sheet .now) _ (front-of I (a .keeps) (kept-choices I)) (a .choices .now) e)),
     )
 
 plan-records-requires : tie.Need-plan-records-requires
@@ -97,12 +99,13 @@ returns-3 c =
     let P = subst (λ (J : Instance).
     (p .result ≡ lent (first-applying (lender-rules J (length (a .output .now)) (length (a .costs .now)) (length (a .choices .now)))) J)
     × (OutputAfter J (p .result) (a .output .now) (p .last .1 .0)
-    × ((p .last .1 .1 .0 ≡ table-after J (p .result) (a .costs .now)) × (p .last .1 .1 .1 .0 ≡ table-after J (p .result) (a .choices .now)))))
+    × ((p .last .1 .1 .0 ≡ front-after J (p .result) (front-of J (a .keeps) (kept-costs J)) (a .costs .now))
+    × (p .last .1 .1 .1 .0 ≡ front-after J (p .result) (front-of J (a .keeps) (kept-choices J)) (a .choices .now)))))
     (load-before-slice-known6 c .load .ensures .1 .accepted _ e) (p .ensures) in
     (P .0 ∙ sym (ap (λ (o : Reading). answers.answered o I (length (a .output .now)) (length (a .costs .now)) (length (a .choices .now))) e), P .1)
 
-pub plan-spec : {M : Type 1} → statement M
-plan-spec =
+pub run-spec : {M : Type 1} → statement M
+run-spec =
     tie.close
     (tie.spec
     load-requires
