@@ -6,7 +6,7 @@ use Rattle.planner.specs.Bounds as bounds
 use Rattle.planner.specs.declared.Planned.{Planned}
 use Rattle.planner.specs.declared.SplitBound.{SplitBound}
 
--- gz_plan writes group, cost and count
+-- gz_plan and gz_keep write group, cost and count
 abbrev pub plan-answer : Planned → List ℕ
 plan-answer a = group a ∷ cost a ∷ count a ∷ []
 

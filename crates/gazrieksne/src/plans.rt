@@ -1,9 +1,10 @@
-// The entry points of the planner and of the bound.
+// The entry points of the planner, which clears the tables or keeps them, and of the bound.
 ghost use mathlib.Core.Path.{_≡_};
 ghost use lib.ListN.{length};
 ghost use Rattle.sheet.specs.Instance.{instance};
 ghost use Rattle.planner.specs.Answers.{number, planned};
-ghost use Rattle.planner.specs.Lent.{table-after, OutputAfter};
+ghost use Rattle.planner.specs.Lent.{front-after, table-after, OutputAfter};
+ghost use Rattle.planner.specs.Kept.{kept-costs, kept-choices};
 ghost use Rattle.planner.specs.Bounds.{split-bound, number as bound-number};
 ghost use Rattle.gazrieksne.specs.Plans.{plan-answer, bound-answer};
 use crate::reads::wide;
@@ -43,6 +44,25 @@ pub extern "C" fn gz_plan(
     ensures choices { λ r. ⌜ now (choices .exit) ≡ table-after (instance (now (bytes .entry))) (planned (now (bytes .entry)) (length (now (output .entry))) (length (now (costs .entry))) (length (now (choices .entry)))) (now (choices .entry)) ⌝ }
 {
     let answered = planner::plan(bytes, output, costs, choices);
+    tell(answered, answer)
+}
+
+// The keeping call, with its answer as numbers.
+#[no_mangle]
+pub extern "C" fn gz_keep(
+    bytes: &[u8],
+    output: &mut [u16],
+    costs: &mut [u64],
+    choices: &mut [u16],
+    answer: &mut [u64; 3],
+) -> u64
+    ensures refusal { λ r. ⌜ r ≡ number (planned (now (bytes .entry)) (length (now (output .entry))) (length (now (costs .entry))) (length (now (choices .entry)))) ⌝ }
+    ensures answer { λ r. ⌜ now (answer .exit) ≡ plan-answer (planned (now (bytes .entry)) (length (now (output .entry))) (length (now (costs .entry))) (length (now (choices .entry)))) ⌝ }
+    ensures output { λ r. ⌜ OutputAfter (instance (now (bytes .entry))) (planned (now (bytes .entry)) (length (now (output .entry))) (length (now (costs .entry))) (length (now (choices .entry)))) (now (output .entry)) (now (output .exit)) ⌝ }
+    ensures costs { λ r. ⌜ now (costs .exit) ≡ front-after (instance (now (bytes .entry))) (planned (now (bytes .entry)) (length (now (output .entry))) (length (now (costs .entry))) (length (now (choices .entry)))) (kept-costs (instance (now (bytes .entry)))) (now (costs .entry)) ⌝ }
+    ensures choices { λ r. ⌜ now (choices .exit) ≡ front-after (instance (now (bytes .entry))) (planned (now (bytes .entry)) (length (now (output .entry))) (length (now (costs .entry))) (length (now (choices .entry)))) (kept-choices (instance (now (bytes .entry)))) (now (choices .entry)) ⌝ }
+{
+    let answered = planner::keep(bytes, output, costs, choices);
     tell(answered, answer)
 }
 

@@ -1,0 +1,29 @@
+-- `gz_keep` meets its contract: the keeping call's promises, with its answer as numbers.
+use borrow.Author.Needs.{needs}
+use Rattle.gazrieksne.proofs.plans.gz_keep.Statement.{statement}
+use Rattle.gazrieksne.proofs.plans.gz_keep.Tie as tie
+
+keep-requires : tie.Need-keep-requires
+keep-requires c κs = search needs
+
+tell-requires : tie.Need-tell-requires
+tell-requires c κs = search needs
+
+same-length : tie.Need-same-length
+same-length c = search needs
+
+same-length-2 : tie.Need-same-length-2
+same-length-2 c = search needs
+
+same-length-3 : tie.Need-same-length-3
+same-length-3 c = search needs
+
+returns : tie.Need-returns
+returns c =
+    let p = c .before .before .before .before .before .before .before .before .keep in
+    rw (← p .ensures .0) (c .tell .ensures .0, (c .tell .ensures .1, p .ensures .1))
+
+pub gz-keep-spec : {M : Type 1} → statement M
+gz-keep-spec =
+    tie.close
+    (tie.spec keep-requires tell-requires same-length same-length-2 same-length-3 returns)
