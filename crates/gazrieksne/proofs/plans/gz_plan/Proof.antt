@@ -21,7 +21,8 @@ same-length-3 c = search needs
 returns : tie.Need-returns
 returns c =
     let p = c .before .before .before .before .before .before .before .before .plan in
-    rw (← p .ensures .0) (c .tell .ensures .0, (c .tell .ensures .1, p .ensures .1))
+    let e = p .ensures .0 in
+    (rw e at (c .tell .ensures .0), (rw e at (c .tell .ensures .1), rw e at (p .ensures .1)))
 
 pub gz-plan-spec : {M : Type 1} → statement M
 gz-plan-spec =
