@@ -50,7 +50,7 @@ module _ (I : Instance) (output costs choices : ℕ) where
   enough h k l = simp (le-ltb output (I .r) h, neither (ltb costs (entries I)) _ (le-ltb costs (entries I) k) (le-ltb choices (entries I) l))
 
 -- with memory enough the tables are used
-solved-used : (f : Cost) (n : ℕ) → used (solved f n) ≡ true
+pub solved-used : (f : Cost) (n : ℕ) → used (solved f n) ≡ true
 unfolding refusal
 solved-used none n = refl
 solved-used (some k) n = refl

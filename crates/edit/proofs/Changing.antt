@@ -1,0 +1,75 @@
+-- One cabinet changed: off the path from it to the root both tables have the same for both instances.
+use Prim.Native.Nat.{ℕ, _<_}
+use mathlib.Core.Path.{_≡_, sym, ap, _∙_, subst, fun-ext}
+use mathlib.Core.Bool.{false}
+use lib.Dec.{ltb}
+use borrow.Author.Tests.{ltb-true}
+use Rattle.finite.proofs.Sums.{only-ext}
+use Rattle.subsets.specs.Tree.{under}
+use Rattle.subsets.specs.Inner.Encoded.{figure}
+use Rattle.subsets.specs.Inner.Net.{Falls}
+use Rattle.subsets.specs.Inner.Keys.{ordered}
+use Rattle.subsets.specs.Inner.Local.{Differ, Off}
+use Rattle.subsets.proofs.Local.{row-all-local, choice-local, differ-ordered}
+use Rattle.rows.specs.Keys.{base}
+use Rattle.sheet.specs.Instance.{Instance}
+use Rattle.embedding.specs.Limits as limits
+use Rattle.embedding.specs.Plan as plans
+use Rattle.embedding.specs.Inner.Charge as charges
+use Rattle.embedding.specs.Inner.Charge.{cabinet-charge, link-charge, net}
+use Rattle.planner.specs.Inner.Tables.{cost-entry, choice-entry}
+use Rattle.edit.specs.Changed.{Changed}
+
+-- ---- the charges of every other cabinet are the same
+
+module _ (e : ℕ) (I J : Instance) (E : Changed e I J) where
+  demands : I .demand ≡ J .demand
+  demands = fun-ext (E .demand)
+
+  bars : I .barred ≡ J .barred
+  bars = fun-ext (λ i. fun-ext (λ c. E .barred i c))
+
+  froms : I .from ≡ J .from
+  froms = fun-ext (E .from)
+
+  tos : I .to ≡ J .to
+  tos = fun-ext (E .to)
+
+  loads : I .load ≡ J .load
+  loads = fun-ext (E .load)
+
+  pub same-parents : I .parent ≡ J .parent
+  same-parents = fun-ext (E .parent)
+
+  node-same : (c x : ℕ) → (c ≡ e → ⊥) → cabinet-charge I c x ≡ cabinet-charge J c x
+  unfolding charges.cabinet-charge plans.admits plans.fits plans.demand-of plans.unbarred plans.fee
+  node-same c x n = rw (E .services, demands, E .capacity c n, E .price c n, bars)
+
+  link-same : (c x : ℕ) → (c ≡ e → ⊥) → link-charge I c x ≡ link-charge J c x
+  unfolding charges.link-charge charges.leaving charges.entering plans.link-fits plans.toll limits.weight limits.frames
+  link-same c x n = rw (E .streams, froms, tos, loads, E .up-capacity c n, E .down-capacity c n, E .up-price c n, E .down-price c n)
+
+  -- The nets differ at that cabinet alone.
+  pub edit-differs : Differ e (net I) (net J)
+  edit-differs = record { services = E .services; nodes = E .cabinets; parents = E .parent; node = node-same; link = link-same }
+
+  -- ---- so are the entries off the path
+
+  module _ (falls : Falls (J .parent)) where
+    falls-before : Falls (I .parent)
+    falls-before = subst Falls (sym same-parents) falls
+
+    off-before : (c : ℕ) → under (J .parent) c e ≡ false → Off (net I) e c
+    off-before c o = ap (λ (p : ℕ → ℕ). under p c e) same-parents ∙ o
+
+    pub cost-same : (c x : ℕ) → under (J .parent) c e ≡ false → cost-entry I c x ≡ cost-entry J c x
+    unfolding cost-entry
+    cost-same c x o = ap figure (row-all-local (net I) (net J) e falls-before edit-differs c x (off-before c o))
+
+    -- the choices of the root, and of the cabinets whose parents are off the path
+    pub choice-same : (c x : ℕ) → (0 < c → under (J .parent) (J .parent c) e ≡ false) → choice-entry I c x ≡ choice-entry J c x
+    unfolding choice-entry
+    choice-same c x o =
+        only-ext (ltb 0 c) _ _ (λ q.
+        choice-local (ordered base (net I)) (ordered base (net J)) e falls-before (differ-ordered base e (net I) (net J) edit-differs) c x (ltb-true 0 c q)
+        (off-before (I .parent c) (ap (λ (p : ℕ). under (J .parent) p e) (E .parent c) ∙ o (ltb-true 0 c q))))

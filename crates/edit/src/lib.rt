@@ -1,0 +1,1 @@
+// One cabinet changed: the call that edits kept tables.
