@@ -41,6 +41,10 @@ rules-before bytes e output costs choices =
 abbrev pub before-numbers : List ℕ
 before-numbers = reader.reader-numbers ++ (10 ∷ 11 ∷ 14 ∷ [])
 
+-- with those of what comes of the tables
+abbrev pub edit-numbers : List ℕ
+edit-numbers = before-numbers ++ (12 ∷ 23 ∷ [])
+
 module _ (d : Call) where
   -- the instance of its sheet
   abbrev pub edited : Instance

@@ -153,9 +153,7 @@ pub written-accepted :
     planned bytes (length output) costs choices ≡ Plan k n →
     OutputAfter (instance bytes) (Plan k n) output output' →
     checked bytes (take (instance bytes .r) output') ≡ answers.Accepted k
-written-accepted bytes output output' costs choices k n e o =
-    let p = planning.written bytes output output' costs choices k n e o in
-    accepted-iff bytes (p .0) (p .1) (take (instance bytes .r) output') k .1 (p .2, p .3, p .4)
+written-accepted = planning.accepted
 
 -- ---- Demand 3
 

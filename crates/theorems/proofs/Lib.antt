@@ -3,5 +3,6 @@ mod Lent
 mod Planning
 mod Copying
 mod Billing
+mod Editing
 pub mod Demands
 pub mod Cases

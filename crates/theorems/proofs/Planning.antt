@@ -33,14 +33,21 @@ use Rattle.embedding.specs.Splits.{placeable, weighed}
 use Rattle.embedding.proofs.Services.{worth-ext}
 use Rattle.embedding.proofs.First.{places-length, places-at, first-valid}
 use Rattle.embedding.proofs.Theorems.{cheapest-mapping, cheapest-none, first-mapping}
+use Rattle.checker.specs.Check.{checked}
+use Rattle.checker.specs.declared.Checked.the-variants as checks
+use Rattle.checker.proofs.Answers.{accepted-iff}
 use Rattle.planner.specs.Answers as plans
 use Rattle.planner.specs.Answers.{number, entries, lender-rules, Enough, plan-numbers, solved, lent, planned}
-use Rattle.planner.specs.Lent.{used, table-after, OutputAfter}
+use Rattle.planner.specs.Lent.{used, front-after, table-after, OutputAfter}
+use Rattle.planner.specs.Kept as kept
+use Rattle.planner.specs.Kept.{kept-costs, kept-choices}
+use Rattle.planner.specs.Inner.Tables.{cost-entry, choice-entry}
 use Rattle.planner.specs.declared.Planned.{Planned}
 use Rattle.planner.specs.declared.Planned.the-variants.{Plan, Refused}
 use Rattle.planner.proofs.Order.{enough-iff}
+use Rattle.edit.proofs.Tables.{table-length, kept-after}
 use Rattle.theorems.proofs.Lent.{front-written}
-use Rattle.theorems.specs.Promised.{Given, Best, Cleared, Written, Left}
+use Rattle.theorems.specs.Promised.{Given, Best, Cleared, Written, Left, KeptLeft}
 
 -- ---- the number of a refusal
 
@@ -184,6 +191,16 @@ written bytes output output' costs choices k n e o =
     (same ∙ provided-some (valid I (first-plan I)) (plan-cost I (first-plan I)) k .1 (first-valid I W k (s .3))) in
     (s .0, s .1, ap length (first-places I k n output output' o) ∙ places-length (I .r) (first-plan I), p .0, p .1)
 
+-- the check accepts it at that cost
+pub accepted :
+    (bytes output output' : List ℕ) (costs choices k n : ℕ) →
+    planned bytes (length output) costs choices ≡ Plan k n →
+    OutputAfter (instance bytes) (Plan k n) output output' →
+    checked bytes (take (instance bytes .r) output') ≡ checks.Accepted k
+accepted bytes output output' costs choices k n e o =
+    let p = written bytes output output' costs choices k n e o in
+    accepted-iff bytes (p .0) (p .1) (take (instance bytes .r) output') k .1 (p .2, p .3, p .4)
+
 -- no mapping of that cost comes before it
 pub none-before :
     (bytes output output' : List ℕ) (costs choices k n : ℕ) →
@@ -218,6 +235,25 @@ output-written : (I : Instance) (k n : ℕ) (output output' : List ℕ) → I .r
 output-written I k n output output' h o =
     front-written (I .r) (places (I .r) (first-plan I)) output output' (places-length (I .r) (first-plan I)) h o
 
+-- a table after a call, where it was used and where it was not
+front-is : (I : Instance) (a : Planned) (front table : List ℕ) (b : Bool) → used a ≡ b → front-after I a front table ≡ cond b (front ++ drop (entries I) table) table
+front-is I a front table b h = ap (λ (c : Bool). cond c (front ++ drop (entries I) table) table) h
+
+module _ (bytes output costs choices output' : List ℕ) (a : Planned) (e : a ≡ planned bytes (length output) (length costs) (length choices)) where
+  -- the memory was enough for a plan or 12
+  room : used a ≡ true → (instance bytes .r ≤ length output) × (entries (instance bytes) ≤ length costs) × (entries (instance bytes) ≤ length choices)
+  room h =
+      let s = used-solved bytes (length output) (length costs) (length choices) (sym (ap used e) ∙ h) in
+      enough-iff (instance bytes) (length output) (length costs) (length choices) .0 (s .enough)
+
+  module _ (o : OutputAfter (instance bytes) a output output') where
+    planned-output : (k n : ℕ) → a ≡ Plan k n → Written (instance bytes .r) output output'
+    planned-output k n p =
+        output-written (instance bytes) k n output output' (room (ap used p) .0) (subst (λ (b : Planned). OutputAfter (instance bytes) b output output') p o)
+
+    refused-output : (f : Refusal) (n : ℕ) → a ≡ Refused f n → output' ≡ output
+    refused-output f n p = subst (λ (b : Planned). OutputAfter (instance bytes) b output output') p o
+
 -- the memory after a planning call
 pub left :
     (bytes output costs choices output' costs' choices' : List ℕ) (a : Planned) →
@@ -227,23 +263,36 @@ pub left :
     choices' ≡ table-after (instance bytes) a choices →
     Left (instance bytes) a output costs choices output' costs' choices'
 left bytes output costs choices output' costs' choices' a e o t u =
+    let I = instance bytes in
+    let zeros : List ℕ = replicate (entries I) 0 in
     record {
-      cleared = λ h. let n = enough h in (
-        subst (Cleared (entries I) costs) (sym (t ∙ after true h costs)) (cleared (entries I) costs (n .1)),
-        subst (Cleared (entries I) choices) (sym (u ∙ after true h choices)) (cleared (entries I) choices (n .2)),
+      cleared = λ h. let n = room bytes output costs choices output' a e h in (
+        subst (Cleared (entries I) costs) (sym (t ∙ front-is I a zeros costs true h)) (cleared (entries I) costs (n .1)),
+        subst (Cleared (entries I) choices) (sym (u ∙ front-is I a zeros choices true h)) (cleared (entries I) choices (n .2)),
       );
-      untouched = λ h. (t ∙ after false h costs, u ∙ after false h choices);
-      planned = λ k n p. output-written I k n output output' (enough (ap used p) .0) (subst (λ (b : Planned). OutputAfter I b output output') p o);
-      refused = λ f n p. subst (λ (b : Planned). OutputAfter I b output output') p o;
+      untouched = λ h. (t ∙ front-is I a zeros costs false h, u ∙ front-is I a zeros choices false h);
+      planned = planned-output bytes output costs choices output' a e o;
+      refused = refused-output bytes output costs choices output' a e o;
     }
-  where
-    I : Instance
-    I = instance bytes
 
-    after : (b : Bool) → used a ≡ b → (table : List ℕ) → table-after I a table ≡ cond b (replicate (entries I) 0 ++ drop (entries I) table) table
-    after b h table = ap (λ (c : Bool). cond c (replicate (entries I) 0 ++ drop (entries I) table) table) h
-
-    enough : used a ≡ true → (I .r ≤ length output) × (entries I ≤ length costs) × (entries I ≤ length choices)
-    enough h =
-        let s = used-solved bytes (length output) (length costs) (length choices) (sym (ap used e) ∙ h) in
-        enough-iff I (length output) (length costs) (length choices) .0 (s .enough)
+-- the memory after a keeping call
+pub left-kept :
+    (bytes output costs choices output' costs' choices' : List ℕ) (a : Planned) →
+    a ≡ planned bytes (length output) (length costs) (length choices) →
+    OutputAfter (instance bytes) a output output' →
+    costs' ≡ front-after (instance bytes) a (kept-costs (instance bytes)) costs →
+    choices' ≡ front-after (instance bytes) a (kept-choices (instance bytes)) choices →
+    KeptLeft (instance bytes) a output costs choices output' costs' choices'
+unfolding kept.kept-costs kept.kept-choices
+left-kept bytes output costs choices output' costs' choices' a e o t u =
+    let I = instance bytes in
+    record {
+      kept = λ h. let n = room bytes output costs choices output' a e h in (
+        kept-after I a costs choices costs' choices' h t u,
+        front-written (entries I) (kept-costs I) costs costs' (table-length I (cost-entry I)) (n .1) (t ∙ front-is I a (kept-costs I) costs true h),
+        front-written (entries I) (kept-choices I) choices choices' (table-length I (choice-entry I)) (n .2) (u ∙ front-is I a (kept-choices I) choices true h),
+      );
+      untouched = λ h. (t ∙ front-is I a (kept-costs I) costs false h, u ∙ front-is I a (kept-choices I) choices false h);
+      planned = planned-output bytes output costs choices output' a e o;
+      refused = refused-output bytes output costs choices output' a e o;
+    }

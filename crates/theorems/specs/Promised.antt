@@ -14,6 +14,7 @@ use Rattle.embedding.specs.Road.{road}
 use Rattle.embedding.specs.Splits.{weighed}
 use Rattle.planner.specs.Answers.{entries}
 use Rattle.planner.specs.Lent.{used}
+use Rattle.planner.specs.Kept.{Kept}
 use Rattle.planner.specs.declared.Planned.{Planned}
 use Rattle.planner.specs.declared.Planned.the-variants.{Plan, Refused}
 use Rattle.bill.specs.Lines.{line-count, line}
@@ -62,6 +63,13 @@ pub record Written (n : ℕ) (output output' : List ℕ) : Type 0 where
 -- what a planning call leaves in the memory lent, by its answer: the tables are used with a plan and with 12
 pub record Left (I : Instance) (a : Planned) (output costs choices output' costs' choices' : List ℕ) : Type 0 where
   pub cleared : used a ≡ true → Cleared (entries I) costs costs' × Cleared (entries I) choices choices'
+  pub untouched : used a ≡ false → (costs' ≡ costs) × (choices' ≡ choices)
+  pub planned : (k n : ℕ) → a ≡ Plan k n → Written (I .r) output output'
+  pub refused : (f : Refusal) (n : ℕ) → a ≡ Refused f n → output' ≡ output
+
+-- what a keeping call leaves in the memory lent, by its answer: with a plan and with 12 both tables are kept of the instance
+pub record KeptLeft (I : Instance) (a : Planned) (output costs choices output' costs' choices' : List ℕ) : Type 0 where
+  pub kept : used a ≡ true → Kept I costs' choices' × Written (entries I) costs costs' × Written (entries I) choices choices'
   pub untouched : used a ≡ false → (costs' ≡ costs) × (choices' ≡ choices)
   pub planned : (k n : ℕ) → a ≡ Plan k n → Written (I .r) output output'
   pub refused : (f : Refusal) (n : ℕ) → a ≡ Refused f n → output' ≡ output
