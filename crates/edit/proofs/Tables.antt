@@ -1,6 +1,6 @@
 -- Tables of rows: entry by entry, kept of an instance, and with some of their rows put in place of others.
 use Prim.Native.Nat.{ℕ, suc, _+_, _*_, _/_, _%_, _^_, _≤_, _<_}
-use native.Mathlib.Nat.{mul-le-mul-right, mul-add-div-right, mul-add-mod-self-right, div-eq-of-lt, mod-eq-of-lt, div-lt-iff-lt-mul, div-add-mod', mod-lt}
+use native.Mathlib.Nat.{mul-le-mul-right, mul-add-div-right, mul-add-mod-self-right, div-eq-of-lt, mod-eq-of-lt, div-lt-iff-lt-mul, mod-lt}
 use native.Mathlib.Omega.{arith}
 use mathlib.Core.Path.{_≡_, refl, sym, ap, ap₂, _∙_, subst}
 use mathlib.Core.Bool.{Bool, true, false, cond}
@@ -12,7 +12,6 @@ use Rattle.finite.proofs.Fronts.{front-length, front-behind}
 use Rattle.subsets.specs.Tree.{under}
 use Rattle.subsets.specs.Inner.Net.{Falls}
 use Rattle.sheet.specs.Instance.{Instance}
-use Rattle.embedding.specs.First.{places}
 use Rattle.embedding.proofs.First.{places-length, places-at, places-ext}
 use Rattle.planner.specs.Answers.{entries}
 use Rattle.planner.specs.Lent.{used, front-after}

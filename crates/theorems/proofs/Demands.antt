@@ -5,10 +5,14 @@
 --   `checked`                               what `checker::check` answers       crates/checker/src/lib.rt
 --   `planned`, `OutputAfter`, `table-after` what `planner::plan` answers, and what output and tables hold after it
 --                                                                               crates/planner/src/lib.rt
+--   `planned`, `OutputAfter`, `front-after` what `planner::keep` answers, and what output and tables hold after it, by `kept-costs` and `kept-choices`
+--                                                                               crates/planner/src/lib.rt
 --   `tidy-answer`, `output-after`           what `tidy::tidy` answers, and what its output holds after it
 --                                                                               crates/tidy/src/lib.rt
 --   `billed`, `lines-after`                 what `bill::bill` answers, and what the places for its lines hold after it
 --                                                                               crates/bill/src/lib.rt
+--   `Edits`                                 what `edit::edit` answers, and what output and tables hold after it: a relation, as tables from elsewhere leave
+--                                           some of it free                     crates/edit/src/lib.rt
 -- and the C entry points `gz_read`, `gz_check`, `gz_plan`, `gz_tidy` and `gz_bill` have the same clauses in crates/gazrieksne/src. What the program prints is
 -- `printed` in crates/report/specs/Text.antt, by the contract of `report::respond`.
 use Prim.Native.Nat.{ℕ, _+_, _-_, _*_, _^_, _≤_, _<_}
@@ -49,10 +53,13 @@ use Rattle.checker.specs.declared.Checked.the-variants as answers
 use Rattle.checker.proofs.Answers.{accepted-iff, right-group, cost-low, check-number, check-first, check-order}
 use Rattle.planner.specs.Answers as plan
 use Rattle.planner.specs.Answers.{Enough, planned}
-use Rattle.planner.specs.Lent.{table-after, OutputAfter}
+use Rattle.planner.specs.Lent.{used, front-after, table-after, OutputAfter}
+use Rattle.planner.specs.Kept.{kept-costs, kept-choices}
 use Rattle.planner.specs.declared.Planned.{Planned}
 use Rattle.planner.specs.declared.Planned.the-variants.{Plan, Refused}
 use Rattle.planner.proofs.Order.{plan-first, plan-order}
+use Rattle.edit.specs.Edits.{Call, rules-before, edit-numbers, edited, number-before, Edits}
+use Rattle.edit.specs.Lists.{InTheRule, AllFresh}
 use Rattle.bill.specs.Tariff.{within-limits}
 use Rattle.bill.specs.Lines.{started, tax-on, line-count, line, net, tax, total}
 use Rattle.bill.specs.Answers as bill
@@ -71,8 +78,9 @@ use Rattle.tidy.specs.declared.Written.the-variants as sheets
 use Rattle.tidy.proofs.Answers.{tidy-first, tidy-order, room-iff, copy-longest}
 use Rattle.theorems.proofs.Billing as billing
 use Rattle.theorems.proofs.Copying as copying
+use Rattle.theorems.proofs.Editing as editing
 use Rattle.theorems.proofs.Planning as planning
-use Rattle.theorems.specs.Promised.{Given, Maps, NoneCheaper, Best, Left, SheetLeft, LinesLeft}
+use Rattle.theorems.specs.Promised.{Given, Maps, NoneCheaper, Best, Left, KeptLeft, SheetLeft, LinesLeft}
 
 -- ---- Demand 1
 
@@ -387,3 +395,72 @@ pub copy-bills-alike :
     (bytes : List ℕ) (h : Sheet) → reading bytes ≡ readings.Accepted h →
     (plan : List ℕ) (t : Tariff) (lines : ℕ) → billed (tidied (instance bytes)) plan t lines ≡ billed bytes plan t lines
 copy-bills-alike = billing.same-billed
+
+-- ---- One cabinet changed
+
+-- After a plan and after 12 of a keeping call both tables are kept of the sheet's instance: each of their first s × 2^r entries is a function of the
+-- instance alone, and all others stay; after any other refusal both tables are as they were. After a plan the output stays from place r on, after any
+-- refusal all of it. (`planner::keep`, clauses `answer`, `output`, `costs`, `choices`.)
+pub keep-memory :
+    (bytes output costs choices output' costs' choices' : List ℕ) (a : Planned) →
+    a ≡ planned bytes (length output) (length costs) (length choices) →
+    OutputAfter (instance bytes) a output output' →
+    costs' ≡ front-after (instance bytes) a (kept-costs (instance bytes)) costs →
+    choices' ≡ front-after (instance bytes) a (kept-choices (instance bytes)) choices →
+    KeptLeft (instance bytes) a output costs choices output' costs' choices'
+keep-memory = planning.left-kept
+
+-- For every list of edits after a keeping call that gave a plan or 12, with nothing else writing the tables, where each edit that nothing refuses
+-- beforehand has a sheet that differs from the last one taken in that cabinet's record only, its parent excepted: each such edit is taken, gives a plan
+-- or 12, and its answer, its output and both tables are those of a keeping call on its sheet; each other leaves all memory; and none gives 23. Of an
+-- edit no more is known there than its contract. (`planner::keep`, clauses `answer`, `costs`, `choices`; `edit::edit`.)
+pub edits-fresh :
+    (bytes costs choices costs' choices' : List ℕ) (output : ℕ) (a : Planned) →
+    a ≡ planned bytes output (length costs) (length choices) →
+    costs' ≡ front-after (instance bytes) a (kept-costs (instance bytes)) costs →
+    choices' ≡ front-after (instance bytes) a (kept-choices (instance bytes)) choices →
+    used a ≡ true →
+    (ds : List Call) → InTheRule (instance bytes) costs' choices' ds → AllFresh ds
+edits-fresh bytes costs choices costs' choices' output a e t u h = editing.after-keeping bytes costs choices costs' choices' a h t u
+
+-- The contract of an edit can be met: for every sheet, number and memory some answer and some memory after it stand in it.
+pub edit-possible :
+    (sheet : List ℕ) (e : ℕ) (output costs choices : List ℕ) →
+    (a : Planned) × (output' : List ℕ) × (costs' : List ℕ) × (choices' : List ℕ)
+    × Edits (record {
+      sheet = sheet;
+      cabinet = e;
+      output = output;
+      costs = costs;
+      choices = choices;
+      answer = a;
+      output' = output';
+      costs' = costs';
+      choices' = choices';
+    })
+edit-possible = editing.some-outcome
+
+-- Any bytes, any number and any tables, with any memory lent, get a plan or one refusal, from 1 to 12, 14, 18, 19 or 23; it stands in the group of its
+-- number, and only 12 has a count. (`edit::edit`.)
+pub edit-answers :
+    (d : Call) → Edits d →
+    ((k : ℕ) × (n : ℕ) × (d .answer ≡ Plan k n))
+    ⊎ ((f : Refusal) × (n : ℕ) × (d .answer ≡ Refused f n) × Given edit-numbers f × ((number-of f ≡ 12 → ⊥) → n ≡ 0))
+edit-answers = editing.answered
+
+-- The rules tried beforehand stand in the order of giving, 14 last, and where one of them applies the number given is the first in that order of which
+-- one does. (`edit::edit`.)
+pub edit-gives :
+    (d : Call) → Edits d →
+    (in-order giving (rules-before (d .sheet) (d .cabinet) (length (d .output)) (length (d .costs)) (length (d .choices))) ≡ true)
+    × (number-before d ≡ first-of giving (rules-before (d .sheet) (d .cabinet) (length (d .output)) (length (d .costs)) (length (d .choices))))
+    × ((number-before d ≡ 0 → ⊥) → plan.number (d .answer) ≡ number-before d)
+edit-gives = editing.gives
+
+-- A plan that an edit hands out, from any tables whatever, is accepted by the check at the cost answered; so with some paths it is a mapping that is
+-- feasible by Definition 1, keeps the limits, and costs that. (`edit::edit`.)
+pub edit-plan-accepted :
+    (d : Call) → Edits d →
+    (k n : ℕ) → d .answer ≡ Plan k n →
+    (checked (d .sheet) (take (edited d .r) (d .output')) ≡ answers.Accepted k) × Maps (edited d) (place (take (edited d .r) (d .output'))) k
+edit-plan-accepted = editing.plan-accepted

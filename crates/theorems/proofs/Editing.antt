@@ -1,5 +1,5 @@
 -- What the contract of an edit gives: some outcome always stands in it, and lists of edits leave what keeping calls would. The work behind the demands.
-use Prim.Native.Nat.{ℕ, zero, suc, _^_, _≤_, _<_}
+use Prim.Native.Nat.{ℕ, zero, suc, _≤_, _<_}
 use native.Mathlib.Omega.{arith}
 use mathlib.Core.Logic.{_⊎_, inl, inr}
 use mathlib.Core.Path.{_≡_, refl, sym, ap, _∙_, subst}
@@ -20,7 +20,6 @@ use Rattle.sheet.proofs.Promises.{well-formed}
 use Rattle.embedding.specs.Plan.{place, cheapest}
 use Rattle.embedding.specs.First.{first-plan, places}
 use Rattle.embedding.specs.Splits.{weighed}
-use Rattle.embedding.proofs.First.{places-length}
 use Rattle.embedding.proofs.Theorems.{plan-iff-mapping}
 use Rattle.checker.specs.Check.{checked}
 use Rattle.checker.specs.declared.Checked.the-variants as checks
@@ -216,3 +215,120 @@ module _ (sheet : List ℕ) (e : ℕ) (output costs choices : List ℕ) where
           let a = planned sheet (length output) (length costs) (length choices) in
           (a, output-with a, costs-with, choices-with, plans q a refl)
       go (suc n) q = (Refused (refusal (suc n)) 0, output, costs, choices, refuses n q)
+
+-- ---- lists of edits
+
+-- nothing refuses the call beforehand
+module _ (d : Call) (z : number-before d ≡ 0) (F : Fresh d) where
+  fresh-solved : d .answer ≡ solved (cheapest (edited d)) (weighed (edited d))
+  fresh-solved =
+      F .answer ∙ passed-solved (d .sheet) (d .cabinet) (length (d .output)) (length (d .costs)) (length (d .choices))
+      (passed (d .sheet) (d .cabinet) (length (d .output)) (length (d .costs)) (length (d .choices)) z)
+
+  -- so the tables were used, and are kept of the sheet's instance
+  fresh-used : used (d .answer) ≡ true
+  fresh-used = ap used fresh-solved ∙ solved-used (cheapest (edited d)) (weighed (edited d))
+
+  fresh-kept : Kept (edited d) (d .costs') (d .choices')
+  fresh-kept = kept-after (edited d) (d .answer) (d .costs) (d .choices) (d .costs') (d .choices') fresh-used (F .costs) (F .choices)
+
+  fresh-as : AsFresh d
+  fresh-as = record {
+    refused = λ n. absurd (n z);
+    fresh = λ y. (F, fresh-used);
+    never-23 = λ p. solved-not-23 (cheapest (edited d)) (weighed (edited d)) (sym (ap number fresh-solved) ∙ p);
+  }
+
+-- something refuses it
+refused-as : (d : Call) (E : Edits d) (n : ℕ) → number-before d ≡ suc n → AsFresh d
+refused-as d E n q =
+    let R = refusing d E n q in
+    record {
+      refused = λ y. (R .untouched, R .unused);
+      fresh = λ z. absurd (omega (arith, q, z));
+      never-23 = λ p. clash (sym (R .listed) ∙ ap (one-of before-numbers) (sym (R .number-is) ∙ p));
+    }
+
+-- From tables kept of I, every list of edits in the rule: each that nothing refuses beforehand answers and leaves what a keeping call on its sheet does.
+pub all-fresh : (ds : List Call) (I : Instance) (t u : List ℕ) → Kept I t u → InTheRule I t u ds → AllFresh ds
+unfolding lists.InTheRule lists.AllFresh
+all-fresh [] I t u K H = tt
+all-fresh (d ∷ ds) I t u K H = go (number-before d) refl (all-fresh ds)
+  where
+    kept-then : Kept I (d .costs) (d .choices)
+    kept-then = subst (λ (t : List ℕ). Kept I t (d .choices)) (sym (H .0 .0)) (subst (Kept I t) (sym (H .0 .1)) K)
+
+    -- the rest of the list, by whether the tables were used
+    rest : (b : Bool) → used (d .answer) ≡ b → InTheRule (cond b (edited d) I) (d .costs') (d .choices') ds
+    rest b e = subst (λ (b : Bool). InTheRule (cond b (edited d) I) (d .costs') (d .choices') ds) e (H .3)
+
+    go : (n : ℕ) → number-before d ≡ n → ((I : Instance) (t u : List ℕ) → Kept I t u → InTheRule I t u ds → AllFresh ds) → AsFresh d × AllFresh ds
+    go zero q more =
+        let F = H .1 .in-rule q I kept-then (H .2 q) in
+        (fresh-as d q F, more (edited d) (d .costs') (d .choices') (fresh-kept d q F) (rest true (fresh-used d q F)))
+    go (suc n) q more =
+        let R = refusing d (H .1) n q in (
+          refused-as d (H .1) n q,
+          more I (d .costs') (d .choices')
+              (subst (λ (t : List ℕ). Kept I t (d .choices')) (sym (R .untouched .costs)) (subst (Kept I (d .costs)) (sym (R .untouched .choices)) kept-then))
+              (rest false (R .unused)),
+        )
+
+-- so does every list after a keeping call whose sheet was taken
+pub after-keeping :
+    (bytes costs choices costs' choices' : List ℕ) (a : Planned) → used a ≡ true →
+    costs' ≡ front-after (instance bytes) a (kept-costs (instance bytes)) costs →
+    choices' ≡ front-after (instance bytes) a (kept-choices (instance bytes)) choices →
+    (ds : List Call) → InTheRule (instance bytes) costs' choices' ds → AllFresh ds
+after-keeping bytes costs choices costs' choices' a h t u ds H =
+    all-fresh ds (instance bytes) costs' choices' (kept-after (instance bytes) a costs choices costs' choices' h t u) H
+
+-- ---- every answer of an edit
+
+-- a plan, or one of an edit's refusals in its own group, with a count only where it is 12
+abbrev pub Answered : Planned → Type 0
+Answered a =
+    ((k : ℕ) × (n : ℕ) × (a ≡ Plan k n))
+    ⊎ ((f : Refusal) × (n : ℕ) × (a ≡ Refused f n) × Given edit-numbers f × ((number-of f ≡ 12 → ⊥) → n ≡ 0))
+
+given : (f : Refusal) (n : ℕ) → f ≡ refusal n → one-of edit-numbers n ≡ true → Given edit-numbers f
+given f n e l = record { grouped = own-group f n e; listed = ap (one-of edit-numbers) (ap number-of e ∙ number-refusal n) ∙ l }
+
+module _ (d : Call) (E : Edits d) where
+  of-outcome : (a : Planned) → d .answer ≡ a → Outcome d a → Answered a
+  of-outcome (Plan k n) p o = inl (k, n, refl)
+  of-outcome (Refused f n) p (inl e, o) = inr (f, n, refl, given f 12 e refl, λ h. absurd (h (ap number-of e ∙ number-refusal 12)))
+  of-outcome (Refused f n) p (inr (e, c), o) = inr (f, n, refl, given f 23 e refl, λ h. c)
+
+  pub answered : Answered (d .answer)
+  answered = go (number-before d) refl
+    where
+      go : (n : ℕ) → number-before d ≡ n → Answered (d .answer)
+      go zero q = of-outcome (d .answer) refl (E .outcome q)
+      go (suc n) q =
+          let R = refusing d E n q in
+          inr (refusal (suc n), 0, R .answer, given (refusal (suc n)) (suc n) refl (one-of-left before-numbers (12 ∷ 23 ∷ []) (suc n) (R .listed)), λ h. refl)
+
+  -- the rules stand in the order of giving, and where one applies the number given is the first in that order of which a rule does
+  pub gives :
+      (in-order giving (rules-before (d .sheet) (d .cabinet) (length (d .output)) (length (d .costs)) (length (d .choices))) ≡ true)
+      × (number-before d ≡ first-of giving (rules-before (d .sheet) (d .cabinet) (length (d .output)) (length (d .costs)) (length (d .choices))))
+      × ((number-before d ≡ 0 → ⊥) → number (d .answer) ≡ number-before d)
+  gives =
+      let o = before-order (d .sheet) (d .cabinet) (length (d .output)) (length (d .costs)) (length (d .choices)) in
+      (o, given-first (rules-before (d .sheet) (d .cabinet) (length (d .output)) (length (d .costs)) (length (d .choices))) o, go (number-before d) refl)
+    where
+      go : (n : ℕ) → number-before d ≡ n → (number-before d ≡ 0 → ⊥) → number (d .answer) ≡ number-before d
+      go zero q h = absurd (h q)
+      go (suc n) q h = refusing d E n q .number-is ∙ sym q
+
+  -- a plan is accepted by the check at the cost answered, and so is a feasible mapping of that cost
+  pub plan-accepted :
+      (k n : ℕ) → d .answer ≡ Plan k n →
+      (checked (d .sheet) (take (edited d .r) (d .output')) ≡ checks.Accepted k) × Maps (edited d) (place (take (edited d .r) (d .output'))) k
+  plan-accepted k n p =
+      let q = plan-passes d E k n p in
+      let P = passed (d .sheet) (d .cabinet) (length (d .output)) (length (d .costs)) (length (d .choices)) q in
+      let c = subst (Outcome d) p (E .outcome q) .0 in
+      let v = accepted-iff (d .sheet) (P .sheet) (P .reads) (take (edited d .r) (d .output')) k .0 c in
+      (c, plan-iff-mapping (edited d) (well-formed (d .sheet) (P .sheet) (P .reads)) (place (take (edited d .r) (d .output'))) k .0 (v .1, v .2))
