@@ -16,7 +16,11 @@ use Rattle.sheet.specs.declared.Reading.the-variants as readings
 use Rattle.sheet.proofs.Groups.{listed, first-listed}
 use Rattle.sheet.proofs.Order.{first-none, first-some}
 use Rattle.planner.specs.Answers.{lender-rules, Enough}
-use Rattle.edit.specs.Edits.{rules-before, before-numbers}
+use Rattle.edit.specs.Edits.{rules-before, edit-numbers}
+
+-- the numbers of the refusals that are given beforehand
+abbrev pub before-numbers : List ℕ
+before-numbers = reader.reader-numbers ++ (10 ∷ 11 ∷ 14 ∷ [])
 
 -- where none of two lists' rules applies, none of the first does, and none of the second
 pub none-of-both : (xs ys : List Rule) → listed (leb 1) xs ≡ true → first-applying (xs ++ ys) ≡ 0 → (first-applying xs ≡ 0) × (first-applying ys ≡ 0)
@@ -55,6 +59,11 @@ module _ (bytes : List ℕ) (e output costs choices : ℕ) where
   pub before-listed : (n : ℕ) → first-applying (rules-before bytes e output costs choices) ≡ suc n → one-of before-numbers (suc n) ≡ true
   unfolding reader.rules
   before-listed n q = first-listed (one-of before-numbers) (rules-before bytes e output costs choices) refl n q
+
+  -- and so one of an edit's
+  pub before-edits : (n : ℕ) → first-applying (rules-before bytes e output costs choices) ≡ suc n → one-of edit-numbers (suc n) ≡ true
+  unfolding reader.rules
+  before-edits n q = first-listed (one-of edit-numbers) (rules-before bytes e output costs choices) refl n q
 
   -- the rules stand in the order of giving
   pub before-order : in-order giving (rules-before bytes e output costs choices) ≡ true

@@ -12,7 +12,7 @@ use Rattle.sheet.specs.Reading as reader
 use Rattle.sheet.specs.Refusals.{Rule, first-applying, refusal}
 use Rattle.checker.specs.Check.{checked}
 use Rattle.checker.specs.declared.Checked.the-variants.{Accepted}
-use Rattle.planner.specs.Answers.{entries, lender-rules, planned}
+use Rattle.planner.specs.Answers.{entries, lender-rules, plan-numbers, planned}
 use Rattle.planner.specs.Lent.{front-after, OutputAfter}
 use Rattle.planner.specs.Kept.{kept-costs, kept-choices, Kept}
 use Rattle.planner.specs.declared.Planned.{Planned}
@@ -37,13 +37,9 @@ rules-before bytes e output costs choices =
     reader.rules bytes
     ++ (lender-rules (instance bytes) output costs choices ++ (record { number = 14; applies = leb (instance bytes .s) e } ∷ []))
 
--- their numbers
-abbrev pub before-numbers : List ℕ
-before-numbers = reader.reader-numbers ++ (10 ∷ 11 ∷ 14 ∷ [])
-
--- with those of what comes of the tables
+-- the numbers of all refusals that an edit can give: the planner's, and two of its own
 abbrev pub edit-numbers : List ℕ
-edit-numbers = before-numbers ++ (12 ∷ 23 ∷ [])
+edit-numbers = plan-numbers ++ (14 ∷ 23 ∷ [])
 
 module _ (d : Call) where
   -- the instance of its sheet

@@ -14,7 +14,7 @@ use Rattle.subsets.specs.Tree.{under}
 use Rattle.sheet.specs.Instance.{Instance, WellFormed, instance}
 use Rattle.sheet.specs.Refusals.{one-of, first-applying, refusal, number-of, giving, first-of, in-order}
 use Rattle.sheet.specs.declared.Refusal.{Refusal}
-use Rattle.sheet.proofs.Groups.{number-refusal, own-group, one-of-left}
+use Rattle.sheet.proofs.Groups.{number-refusal, own-group}
 use Rattle.sheet.proofs.Order.{given-first}
 use Rattle.sheet.proofs.Promises.{well-formed}
 use Rattle.embedding.specs.Plan.{place, cheapest}
@@ -34,10 +34,10 @@ use Rattle.planner.specs.declared.Planned.the-variants.{Plan, Refused}
 use Rattle.planner.proofs.Order.{enough-iff}
 use Rattle.planner.proofs.Lending.{solved-used}
 use Rattle.edit.specs.Changed.{Changed}
-use Rattle.edit.specs.Edits.{Call, rules-before, before-numbers, edit-numbers, edited, number-before, Untouched, Outcome, RowsStay, Fresh, Edits}
+use Rattle.edit.specs.Edits.{Call, rules-before, edit-numbers, edited, number-before, Untouched, Outcome, RowsStay, Fresh, Edits}
 use Rattle.edit.specs.Lists as lists
 use Rattle.edit.specs.Lists.{InTheRule, AsFresh, AllFresh}
-use Rattle.edit.proofs.Before.{Passed, passed, before-listed, before-order}
+use Rattle.edit.proofs.Before.{before-numbers, Passed, passed, before-listed, before-edits, before-order}
 use Rattle.edit.proofs.Tables.{kept-after, with-rows, rows-length, rows-behind, rows-stay, rows-whole, costs-off, choices-off}
 use Rattle.theorems.proofs.Planning.{accepted-solved, first-places, accepted}
 use Rattle.theorems.specs.Promised.{Given, Maps}
@@ -307,7 +307,14 @@ module _ (d : Call) (E : Edits d) where
       go zero q = of-outcome (d .answer) refl (E .outcome q)
       go (suc n) q =
           let R = refusing d E n q in
-          inr (refusal (suc n), 0, R .answer, given (refusal (suc n)) (suc n) refl (one-of-left before-numbers (12 ∷ 23 ∷ []) (suc n) (R .listed)), λ h. refl)
+          inr (
+            refusal (suc n),
+            0,
+            R .answer,
+            given (refusal (suc n)) (suc n) refl
+                (before-edits (d .sheet) (d .cabinet) (length (d .output)) (length (d .costs)) (length (d .choices)) n q),
+            λ h. refl,
+          )
 
   -- the rules stand in the order of giving, and where one applies the number given is the first in that order of which a rule does
   pub gives :
