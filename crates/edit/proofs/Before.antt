@@ -38,10 +38,12 @@ module _ (bytes : List ℕ) (e output costs choices : ℕ) where
     pub enough : Enough (instance bytes) output costs choices
     pub within : e < instance bytes .s
 
+  -- the number is below s
   own-fails : (t : Bool) → _≡_ {A = ℕ} (cond t 14 0) 0 → t ≡ false
   own-fails true q = absurd (omega (arith, q))
   own-fails false q = refl
 
+  -- The sheet is accepted, the memory is enough, and the number is a cabinet's.
   pub passed : first-applying (rules-before bytes e output costs choices) ≡ 0 → Passed
   unfolding reader.rules reading answered first-applying
   passed z =

@@ -23,6 +23,7 @@ use Rattle.edit.specs.Changed.{Changed}
 -- ---- the charges of every other cabinet are the same
 
 module _ (e : ℕ) (I J : Instance) (E : Changed e I J) where
+  -- fields that are the same of every record
   demands : I .demand ≡ J .demand
   demands = fun-ext (E .demand)
 
@@ -41,6 +42,7 @@ module _ (e : ℕ) (I J : Instance) (E : Changed e I J) where
   pub same-parents : I .parent ≡ J .parent
   same-parents = fun-ext (E .parent)
 
+  -- what is charged depends on them and on the cabinet's own record
   node-same : (c x : ℕ) → (c ≡ e → ⊥) → cabinet-charge I c x ≡ cabinet-charge J c x
   unfolding charges.cabinet-charge plans.admits plans.fits plans.demand-of plans.unbarred plans.fee
   node-same c x n = rw (E .services, demands, E .capacity c n, E .price c n, bars)
@@ -56,12 +58,14 @@ module _ (e : ℕ) (I J : Instance) (E : Changed e I J) where
   -- ---- so are the entries off the path
 
   module _ (falls : Falls (J .parent)) where
+    -- both have the same tree
     falls-before : Falls (I .parent)
     falls-before = subst Falls (sym same-parents) falls
 
     off-before : (c : ℕ) → under (J .parent) c e ≡ false → Off (net I) e c
     off-before c o = ap (λ (p : ℕ → ℕ). under p c e) same-parents ∙ o
 
+    -- the costs of the cabinets off the path
     pub cost-same : (c x : ℕ) → under (J .parent) c e ≡ false → cost-entry I c x ≡ cost-entry J c x
     unfolding cost-entry
     cost-same c x o = ap figure (row-all-local (net I) (net J) e falls-before edit-differs c x (off-before c o))

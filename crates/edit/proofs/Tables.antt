@@ -35,6 +35,7 @@ module _ (I : Instance) where
   place-set i = mod-lt i (pow-pos (I .r))
 
   module _ (f : ℕ → ℕ → ℕ) where
+    -- it has s × 2^r entries
     pub table-length : length (table-of I f) ≡ entries I
     table-length = places-length (entries I) _
 
@@ -74,13 +75,16 @@ unfoldable pub with-rows : Instance → (ℕ → Bool) → (ℕ → ℕ → ℕ)
 with-rows J test f t = rows-of J test f t ++ drop (entries J) t
 
 module _ (J : Instance) (test : ℕ → Bool) (f : ℕ → ℕ → ℕ) (t : List ℕ) where
+  -- its rows are s × 2^r entries
   long : length (rows-of J test f t) ≡ entries J
   long = table-length J (λ c x. cond (test c) (f c x) (entry (2 ^ J .r) t c x))
 
+  -- the length stays
   pub rows-length : entries J ≤ length t → length (with-rows J test f t) ≡ length t
   unfolding with-rows
   rows-length h = front-length (entries J) (rows-of J test f t) t long h
 
+  -- all that is behind the rows stays
   pub rows-behind : (i : ℕ) → entries J ≤ i → getD (with-rows J test f t) i 0 ≡ getD t i 0
   unfolding with-rows
   rows-behind i h = front-behind (entries J) (rows-of J test f t) t long i h
@@ -117,6 +121,7 @@ module _ (e : ℕ) (I J : Instance) (E : Changed e I J) (falls : Falls (J .paren
   unfolding kept.kept-costs
   costs-off c x h o l = entry-before (cost-entry I) t (K .of-costs) c x h l ∙ cost-same e I J E falls c x o
 
+  -- and so of the choices
   pub choices-off : (c x : ℕ) → c < J .s → (0 < c → under (J .parent) (J .parent c) e ≡ false) → x < 2 ^ J .r → entry (2 ^ J .r) u c x ≡ choice-entry J c x
   unfolding kept.kept-choices
   choices-off c x h o l = entry-before (choice-entry I) u (K .of-choices) c x h l ∙ choice-same e I J E falls c x o

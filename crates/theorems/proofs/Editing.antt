@@ -45,6 +45,7 @@ use Rattle.theorems.specs.Promised.{Given, Maps}
 -- ---- a call that is refused beforehand, and one that is not
 
 module _ (d : Call) (E : Edits d) where
+  -- what is known of a call that is refused beforehand with the number n
   pub record Refusing (n : ℕ) : Type 0 where
     pub answer : d .answer ≡ Refused (refusal n) 0
     pub untouched : Untouched d
@@ -92,10 +93,11 @@ solved-road (some k) m f n q = absurd (let z : _≡_ {A = ℕ} 0 1 = cc in omega
 -- ---- some outcome stands in the contract for every call
 
 module _ (sheet : List ℕ) (e : ℕ) (output costs choices : List ℕ) where
-  -- the first refusal that applies, as a call's number
+  -- the number of the first refusal that applies beforehand
   abbrev number-of-call : ℕ
   number-of-call = first-applying (rules-before sheet e (length output) (length costs) (length choices))
 
+  -- the call with this answer and this memory after it
   abbrev made : Planned → List ℕ → List ℕ → List ℕ → Call
   made a output' costs' choices' = record {
     sheet = sheet;
@@ -127,19 +129,22 @@ module _ (sheet : List ℕ) (e : ℕ) (output costs choices : List ℕ) where
   output-is (Plan k n) = refl
   output-is (Refused f n) = refl
 
-  -- and in both tables the changed instance's rows along the path, the others as they were
+  -- the cost rows that are written: those of the cabinets on the path
   abbrev on-path : ℕ → Bool
   on-path c = under (instance sheet .parent) c e
 
+  -- the choice rows that are written: those of the cabinets whose parents are on the path
   abbrev below-path : ℕ → Bool
   below-path c = ltb 0 c && under (instance sheet .parent) (instance sheet .parent c) e
 
+  -- in both tables these are the sheet's rows, the others are as they were
   abbrev costs-with : List ℕ
   costs-with = with-rows (instance sheet) on-path (cost-entry (instance sheet)) costs
 
   abbrev choices-with : List ℕ
   choices-with = with-rows (instance sheet) below-path (choice-entry (instance sheet)) choices
 
+  -- a choice row is not written exactly if it is the root's, or the parent is off the path
   below-off : (c : ℕ) → (0 < c → on-path (instance sheet .parent c) ≡ false) → below-path c ≡ false
   below-off c o = go (ltb 0 c) refl
     where
@@ -151,6 +156,7 @@ module _ (sheet : List ℕ) (e : ℕ) (output costs choices : List ℕ) where
   off-below c h z = ap (λ (b : Bool). b && on-path (instance sheet .parent c)) (sym (lt-ltb 0 c z)) ∙ h
 
   module _ (z : number-of-call ≡ 0) where
+    -- the sheet is accepted, the memory is enough, and the number is a cabinet's
     P : Passed sheet e (length output) (length costs) (length choices)
     P = passed sheet e (length output) (length costs) (length choices) z
 
@@ -161,12 +167,14 @@ module _ (sheet : List ℕ) (e : ℕ) (output costs choices : List ℕ) where
     enough = enough-iff (instance sheet) (length output) (length costs) (length choices) .0 (P .enough)
 
     module _ (a : Planned) (q : a ≡ planned sheet (length output) (length costs) (length choices)) where
+      -- the answer is a plan or 12, and the tables are used
       solves : a ≡ solved (cheapest (instance sheet)) (weighed (instance sheet))
       solves = q ∙ passed-solved sheet e (length output) (length costs) (length choices) P
 
       is-used : used a ≡ true
       is-used = ap used solves ∙ solved-used (cheapest (instance sheet)) (weighed (instance sheet))
 
+      -- the plan is accepted by the check
       outcome-is : (b : Planned) → a ≡ b → Outcome (made a (output-with b) costs-with choices-with) b
       outcome-is (Plan k n) p = (
         accepted sheet output (output-with (Plan k n)) (length costs) (length choices) k n (sym q ∙ p) refl,
@@ -174,6 +182,7 @@ module _ (sheet : List ℕ) (e : ℕ) (output costs choices : List ℕ) where
       )
       outcome-is (Refused f n) p = (inl (solved-road (cheapest (instance sheet)) (weighed (instance sheet)) f n (sym p ∙ solves)), refl)
 
+      -- the rows that must stay do
       rows-are : RowsStay (made a (output-with a) costs-with choices-with)
       rows-are = record {
         costs-length = rows-length (instance sheet) on-path (cost-entry (instance sheet)) costs (enough .1);
@@ -199,6 +208,7 @@ module _ (sheet : List ℕ) (e : ℕ) (output costs choices : List ℕ) where
             ∙ sym (ap (λ (b : Bool). cond b (kept-choices (instance sheet) ++ drop (entries (instance sheet)) choices) choices) is-used);
       }
 
+      -- so the call stands in the contract
       plans : Edits (made a (output-with a) costs-with choices-with)
       plans = record {
         refused = λ n nz p. absurd (nz (sym p ∙ z));
@@ -207,6 +217,7 @@ module _ (sheet : List ℕ) (e : ℕ) (output costs choices : List ℕ) where
         in-rule = λ y I K E. fresh I K E;
       }
 
+  -- Some answer and some memory after the call stand in the contract.
   pub some-outcome : (a : Planned) × (output' : List ℕ) × (costs' : List ℕ) × (choices' : List ℕ) × Edits (made a output' costs' choices')
   some-outcome = go number-of-call refl
     where
@@ -218,7 +229,7 @@ module _ (sheet : List ℕ) (e : ℕ) (output costs choices : List ℕ) where
 
 -- ---- lists of edits
 
--- nothing refuses the call beforehand
+-- a call that nothing refuses beforehand, and that does as a keeping call
 module _ (d : Call) (z : number-before d ≡ 0) (F : Fresh d) where
   fresh-solved : d .answer ≡ solved (cheapest (edited d)) (weighed (edited d))
   fresh-solved =
@@ -239,7 +250,7 @@ module _ (d : Call) (z : number-before d ≡ 0) (F : Fresh d) where
     never-23 = λ p. solved-not-23 (cheapest (edited d)) (weighed (edited d)) (sym (ap number fresh-solved) ∙ p);
   }
 
--- something refuses it
+-- a call that something refuses beforehand
 refused-as : (d : Call) (E : Edits d) (n : ℕ) → number-before d ≡ suc n → AsFresh d
 refused-as d E n q =
     let R = refusing d E n q in
@@ -291,15 +302,18 @@ Answered a =
     ((k : ℕ) × (n : ℕ) × (a ≡ Plan k n))
     ⊎ ((f : Refusal) × (n : ℕ) × (a ≡ Refused f n) × Given edit-numbers f × ((number-of f ≡ 12 → ⊥) → n ≡ 0))
 
+-- one of an edit's refusals in its own group
 given : (f : Refusal) (n : ℕ) → f ≡ refusal n → one-of edit-numbers n ≡ true → Given edit-numbers f
 given f n e l = record { grouped = own-group f n e; listed = ap (one-of edit-numbers) (ap number-of e ∙ number-refusal n) ∙ l }
 
 module _ (d : Call) (E : Edits d) where
+  -- what comes of any tables
   of-outcome : (a : Planned) → d .answer ≡ a → Outcome d a → Answered a
   of-outcome (Plan k n) p o = inl (k, n, refl)
   of-outcome (Refused f n) p (inl e, o) = inr (f, n, refl, given f 12 e refl, λ h. absurd (h (ap number-of e ∙ number-refusal 12)))
   of-outcome (Refused f n) p (inr (e, c), o) = inr (f, n, refl, given f 23 e refl, λ h. c)
 
+  -- Every call.
   pub answered : Answered (d .answer)
   answered = go (number-before d) refl
     where
