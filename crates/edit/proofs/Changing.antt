@@ -8,9 +8,8 @@ use Rattle.finite.proofs.Sums.{only-ext}
 use Rattle.subsets.specs.Tree.{under}
 use Rattle.subsets.specs.Inner.Encoded.{figure}
 use Rattle.subsets.specs.Inner.Net.{Falls}
-use Rattle.subsets.specs.Inner.Keys.{ordered}
 use Rattle.subsets.specs.Inner.Local.{Differ, Off}
-use Rattle.subsets.proofs.Local.{row-all-local, choice-local, differ-ordered}
+use Rattle.subsets.proofs.Local.{row-all-local, kept-choice-local}
 use Rattle.rows.specs.Keys.{base}
 use Rattle.sheet.specs.Instance.{Instance}
 use Rattle.embedding.specs.Limits as limits
@@ -75,5 +74,5 @@ module _ (e : ℕ) (I J : Instance) (E : Changed e I J) where
     unfolding choice-entry
     choice-same c x o =
         only-ext (ltb 0 c) _ _ (λ q.
-        choice-local (ordered base (net I)) (ordered base (net J)) e falls-before (differ-ordered base e (net I) (net J) edit-differs) c x (ltb-true 0 c q)
+        kept-choice-local base (net I) (net J) e falls-before edit-differs c x (ltb-true 0 c q)
         (off-before (I .parent c) (ap (λ (p : ℕ). under (J .parent) p e) (E .parent c) ∙ o (ltb-true 0 c q))))

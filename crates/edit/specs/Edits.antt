@@ -31,6 +31,11 @@ pub record Call : Type 0 where
   pub costs' : List ℕ
   pub choices' : List ℕ
 
+-- the call of these arguments, with this answer and what they are after it
+abbrev pub called : List ℕ → ℕ → List ℕ → List ℕ → List ℕ → Planned → List ℕ → List ℕ → List ℕ → Call
+called sheet e o t u a o' t' u' =
+    record { sheet = sheet; cabinet = e; output = o; costs = t; choices = u; answer = a; output' = o'; costs' = t'; choices' = u' }
+
 -- the refusals that an edit gives before it touches a table, in the order in which they are tried
 abbrev pub rules-before : List ℕ → ℕ → ℕ → ℕ → ℕ → List Rule
 rules-before bytes e output costs choices =

@@ -19,9 +19,11 @@ use Rattle.subsets.specs.Inner.Encoded.{figure}
 use Rattle.subsets.specs.Inner.Net.{Net}
 use Rattle.subsets.specs.Inner.Rows.{row-at, choice-at}
 use Rattle.subsets.specs.Inner.Keys.{ordered}
+use Rattle.subsets.specs.Inner.Kept.{kept-choice}
 use Rattle.subsets.specs.Inner.Back.{seat}
 use Rattle.subsets.specs.Inner.Count as counts
 use Rattle.subsets.proofs.Rows.{row-before}
+use Rattle.subsets.proofs.Local.{kept-chosen}
 use Rattle.sheet.specs.Limits.{max-services, max-cabinets, max-streams, max-amount}
 use Rattle.sheet.specs.Instance.{Instance, WellFormed}
 use Rattle.embedding.specs.Limits.{frames}
@@ -154,7 +156,7 @@ module _ (k : Records) (passes : sound k ≡ true) where
 
   same-choice : (c x : ℕ) → tables.choice-entry k c x ≡ choice-entry (told k) c x
   unfolding tables.choice-entry choice-entry
-  same-choice c x = ap (λ (N : Net). only (ltb 0 c) (choice-at (ordered base N) c x)) same-net
+  same-choice c x = ap (λ (N : Net). only (ltb 0 c) (kept-choice base N c x)) same-net
 
   same-count : counts.weighed (netted k) ≡ weighed (told k)
   same-count = ap counts.weighed same-net ∙ weighed-net (told k) told-well
@@ -180,9 +182,9 @@ module _ (k : Records) (passes : sound k ≡ true) where
   pub kept-answer : planned-of (decided (least k) (counts.weighed (netted k))) ≡ solved (cheapest (told k)) (weighed (told k))
   kept-answer = ap₂ (λ (f : Cost) (n : ℕ). planned-of (decided f n)) same-least same-count ∙ answers (cheapest (told k)) (weighed (told k))
 
-  choice-there : (c x : ℕ) → 0 < c → tables.choice-entry k c x ≡ choice-at (ordered base (net (told k))) c x
+  choice-there : (c x : ℕ) → 0 < c → 0 < x → tables.choice-entry k c x ≡ choice-at (ordered base (net (told k))) c x
   unfolding choice-entry only
-  choice-there c x z = same-choice c x ∙ rw (lt-ltb 0 c z) refl
+  choice-there c x z y = same-choice c x ∙ rw (lt-ltb 0 c z) (kept-chosen base (net (told k)) c x y)
 
   -- The output is the first of the cheapest plans.
   pub kept-output : (c n : ℕ) (o o' : List ℕ) → length o' ≡ told k .r → kept.Plan c n ≡ decided (least k) (counts.weighed (netted k)) → OutputOf k (kept.Plan c n) o o'
@@ -191,7 +193,7 @@ module _ (k : Records) (passes : sound k ≡ true) where
   kept-output c n o o' long e H =
       places-only (told k .r) (first-plan (told k)) o' long (λ i l.
       H i l ∙ ap (λ (N : Net). seat N (tables.choice-entry k) 0 (k .cabinets) (full (k .services)) i) same-net
-      ∙ seat-first-table (told k) told-well base (G .cabinets) (tables.choice-entry k) (λ d x z m h. choice-there d x z) c (sym same-least ∙ cost-is (least k) refl) i l)
+      ∙ seat-first-table (told k) told-well base (G .cabinets) (tables.choice-entry k) (λ d x z m y h. choice-there d x z y) c (sym same-least ∙ cost-is (least k) refl) i l)
     where
       cost-is : (f : Cost) → least k ≡ f → least k ≡ some c
       cost-is none q = absurd (let z : kept.Plan c n ≡ kept.NoPlan (counts.weighed (netted k)) = e ∙ ap (λ (f : Cost). decided f (counts.weighed (netted k))) q in let y : _≡_ {A = ℕ} 0 1 = cc in omega arith)

@@ -7,8 +7,8 @@ use lib.Dec.{ltb}
 use lib.ListN.{getD}
 use Rattle.finite.specs.Below.{only}
 use Rattle.subsets.specs.Inner.Encoded.{figure}
-use Rattle.subsets.specs.Inner.Rows.{row-at, choice-at}
-use Rattle.subsets.specs.Inner.Keys.{ordered}
+use Rattle.subsets.specs.Inner.Rows.{row-at}
+use Rattle.subsets.specs.Inner.Kept.{kept-choice}
 use Rattle.rows.specs.Keys.{base}
 use Rattle.sheet.specs.Instance.{Instance}
 use Rattle.embedding.specs.Inner.Charge.{net}
@@ -22,10 +22,10 @@ entry size table p x = getD table (p * size + x) 0
 unfoldable pub cost-entry : Instance → ℕ → ℕ → ℕ
 cost-entry I p x = figure (row-at (net I) p (I .s) x)
 
--- a choice entry: the services of x that stay when c is joined to its parent, where of splits of the same cost the one with the lower key wins; the
--- root, which is joined to none, has 0
+-- a choice entry: the services of x that stay when c is joined to its parent, where of splits of the same cost the one with the lower key wins, and for
+-- the empty set the count of the splits of that join; the root, which is joined to none, has 0
 unfoldable pub choice-entry : Instance → ℕ → ℕ → ℕ
-choice-entry I c x = only (ltb 0 c) (choice-at (ordered base (net I)) c x)
+choice-entry I c x = only (ltb 0 c) (kept-choice base (net I) c x)
 
 -- every entry of a table of s rows is that of f
 abbrev pub Entries : Instance → (ℕ → ℕ → ℕ) → List ℕ → Type 0
