@@ -2,3 +2,6 @@
 pub mod Changing
 pub mod Before
 pub mod Tables
+pub mod Accepting
+mod Reworking
+mod Lifting

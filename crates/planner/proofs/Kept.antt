@@ -246,6 +246,12 @@ told-sound k W =
       eq-eqb (getD (k .«down_price») 0 0) 0 (sym (field-in (k .cabinets) (k .«down_price») 0 (W .some-cabinet)) ∙ W .root-links .3),
     ) refl
 
+-- So they fit memory of the size that the instance needs.
+pub fits-told : (k : Records) (o t u : ℕ) → WellFormed (told k) → o ≡ told k .r → t ≡ entries (told k) → u ≡ entries (told k) → fitting k o t u ≡ true
+unfolding told tables.fitting
+fits-told k o t u W lo lt lu =
+    rw (told-sound k W, eq-eqb o (k .services) lo, eq-eqb t (k .cabinets * 2 ^ k .services) lt, eq-eqb u (k .cabinets * 2 ^ k .services) lu) refl
+
 -- ---- the calls
 
 after-plan : (k : Records) (s : sound k ≡ true) (o o' : List ℕ) → length o ≡ told k .r → length o' ≡ length o → (a : Kept)
@@ -269,8 +275,7 @@ module _ (k : Records) (o o' t t' u u' : List ℕ) (a : Kept) (W : WellFormed (t
   passed = told-sound k W
 
   fit : fitting k (length o) (length t) (length u) ≡ true
-  unfolding told tables.fitting
-  fit = rw (passed, eq-eqb (length o) (k .services) lo, eq-eqb (length t) (k .cabinets * 2 ^ k .services) lt, eq-eqb (length u) (k .cabinets * 2 ^ k .services) lu) refl
+  fit = fits-told k (length o) (length t) (length u) W lo lt lu
 
   -- A keeping call.
   pub keeps-instance : length t' ≡ length t → length u' ≡ length u → Keeps k o o' t t' u u' a → Left-of true k o o' t' u' a
