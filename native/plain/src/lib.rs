@@ -1,13 +1,16 @@
 //! The planner by rows of sets of services, in plain Rust: the measure for speed, and, with the
 //! first of the cheapest plans found beside it, the answer for roads that have too many plans to
-//! try.
+//! try; and the tables of keeping calls and edits, with ties settled by keys.
 #![forbid(unsafe_code)]
 
 mod charges;
 mod first;
 mod join;
+mod kept;
+mod keyed;
 
 pub use first::first_plan;
+pub use kept::{Edited, answer, edit, tables};
 
 use charges::Charges;
 use second::framing::FRAMING;

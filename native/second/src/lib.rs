@@ -1,8 +1,10 @@
-//! A second reader, check, planner, maker of bills and writer of tidy copies of planning sheets.
+//! A second reader, check, planner, keeper of tables, maker of bills and writer of tidy copies of
+//! planning sheets.
 //!
 //! It is written from the papers alone and is meant to be plainly right rather than fast: the
-//! planner tries every plan in order and keeps the first of the cheapest, the splits weighed are
-//! counted by their definition, and so are the blocks of a bill.
+//! planner tries every plan in order and keeps the first of the cheapest, kept tables are filled by
+//! trying every placing of every set, the splits weighed are counted by their definition, and so
+//! are the blocks of a bill.
 #![forbid(unsafe_code)]
 
 pub mod barred;
@@ -18,6 +20,7 @@ pub mod form;
 pub mod framed;
 pub mod framing;
 pub mod hex;
+pub mod keep;
 pub mod limits;
 pub mod measured;
 pub mod path;
@@ -35,6 +38,7 @@ pub use bill::{Bill, Tariff, bill};
 pub use bound::bound;
 pub use build::{Layout, build};
 pub use check::check;
+pub use keep::{Tables, keep};
 pub use plan::{Answer, plan};
 pub use read::read;
 pub use refusal::group;

@@ -8,7 +8,8 @@ pub const SHEET_WRITER: u64 = 1;
 pub const LENDER: u64 = 2;
 /// The road: 12.
 pub const ROAD: u64 = 3;
-/// Whoever wrote the plan: 13 to 16, and 20.
+/// Whoever wrote the plan, or names the cabinet and lends the tables of an edit: 13 to 16, 20 and
+/// 23.
 pub const PLAN_WRITER: u64 = 4;
 
 /// The group of a refusal number; 0 for none.
@@ -17,7 +18,7 @@ pub fn group(number: u64) -> u64 {
         1..=9 | 18 | 19 => SHEET_WRITER,
         10 | 11 | 21 | 22 => LENDER,
         12 => ROAD,
-        13..=16 | 20 => PLAN_WRITER,
+        13..=16 | 20 | 23 => PLAN_WRITER,
         _ => NONE,
     }
 }

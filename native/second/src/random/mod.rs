@@ -1,9 +1,11 @@
-//! Random roads, damaged sheets, tariffs and cases, the same for the same seed.
+//! Random roads, damaged sheets, tariffs, edits and cases, the same for the same seed.
 
 pub mod amounts;
 pub mod bars;
+pub mod breach;
 pub mod case;
 pub mod damage;
+pub mod edits;
 pub mod layout;
 pub mod misplaced;
 pub mod road;

@@ -1,0 +1,94 @@
+//! The tables by rows are those by definition, and edits of kept tables leave what keeping leaves.
+
+use plain::{answer, edit, tables};
+use second::keep::{NONE, placings};
+use second::measured::m_records;
+use second::plan::{MOST_PLANS, plans, solve};
+use second::random::edits::Edits;
+use second::random::road::road;
+use second::random::{Random, Size};
+use second::{Sheet, framed, tied};
+
+const SIZE: Size = Size {
+    services: 4,
+    cabinets: 6,
+};
+
+/// The tables of both, which must be the same; and the answer that they give.
+fn agree(sheet: &Sheet) {
+    let right = second::keep::tables(sheet);
+    assert_eq!(tables(sheet), right, "{sheet:?}");
+    let mut solved = solve(sheet);
+    solved.ties = 0;
+    assert_eq!(answer(sheet, &right), solved, "{sheet:?}");
+}
+
+/// By hand: alone, service 0 is cheapest on 1 for 2 and the stream of 3 up at 2, and service 1 there
+/// for 2 and the stream down at 1; both cost 15 as (0, 1), which comes before (1, 2).
+#[test]
+fn road_m() {
+    let right = second::keep::tables(&m_records());
+    assert_eq!(right.costs, [0, 8, 5, 15, 0, 2, 2, NONE, 0, 4, 4, NONE]);
+    assert_eq!(right.choices, [0, 0, 0, 0, 9, 0, 0, 1, 9, 1, 2, 3]);
+    agree(&m_records());
+}
+
+#[test]
+fn random_roads() {
+    let mut random = Random::new(21);
+    let (mut unplaced, mut tied) = (0, 0);
+    for _ in 0..1500 {
+        let (_, sheet) = road(&mut random, SIZE);
+        if placings(&sheet) > 20_000 {
+            continue;
+        }
+        agree(&sheet);
+        let solved = solve(&sheet);
+        unplaced += usize::from(solved.plan.is_none());
+        tied += usize::from(solved.ties > 0);
+    }
+    assert!(unplaced > 100 && tied > 200, "{unplaced}, {tied}");
+}
+
+#[test]
+fn written_down() {
+    let tied = tied::all().into_iter().map(|road| road.sheet);
+    let framed = framed::all().into_iter().map(|road| road.sheet);
+    for sheet in tied.chain(framed) {
+        if placings(&sheet) <= 1_000_000 && plans(&sheet) <= MOST_PLANS {
+            agree(&sheet);
+        }
+    }
+}
+
+#[test]
+fn lists_of_edits() {
+    let mut random = Random::new(22);
+    let (mut planned, mut refused, mut again) = (0, 0, 0);
+    for _ in 0..1500 {
+        let (_, sheet) = road(&mut random, SIZE);
+        let mut edits = Edits::new(&sheet);
+        let mut kept = tables(&sheet);
+        let mut before = 0;
+        for _ in 0..5 {
+            let cabinet = match before == 12 && random.once_in(2) {
+                true => edits.back(&mut random),
+                false => edits.next(&mut random),
+            };
+            let edited = edit(edits.sheet(), cabinet, &mut kept);
+            assert!(!edited.open);
+            assert_eq!(kept, tables(edits.sheet()));
+            assert_eq!(edited.answer, answer(edits.sheet(), &kept));
+            let refusal = edited.answer.refusal;
+            planned += usize::from(refusal == 0);
+            refused += usize::from(refusal == 12);
+            again += usize::from(refusal == 0 && before == 12);
+            assert!(refusal == 0 || refusal == 12);
+            before = refusal;
+        }
+    }
+    assert!(
+        planned > 2000 && refused > 1000 && again > 200,
+        "{planned} {refused} {again}"
+    );
+}

@@ -1,0 +1,135 @@
+//! Edits that break the rule: the tables are not those of a sheet that differs in one cabinet only.
+
+use super::Random;
+use super::amounts::Scale;
+use super::bars::bars;
+use super::edits::{other_record, some_cabinet};
+use super::road::of_numbers;
+use crate::keep::{NONE, Tables};
+use crate::limits::{CABINETS, SERVICES};
+use crate::sheet::Sheet;
+
+/// How the rule is broken.
+#[derive(Clone, Copy, Debug, PartialEq, Eq, PartialOrd, Ord)]
+pub enum Breach {
+    /// Another cabinet is changed too.
+    TwoCabinets,
+    /// The cabinet, or another one, has another parent.
+    Parent,
+    /// The tables are those of another road with as many services and cabinets.
+    OtherRoad,
+    /// The tables are those of a road with other numbers of them.
+    OtherSizes,
+    /// Entries at random.
+    Noise,
+    /// All bits of all entries are set.
+    Ones,
+    /// All entries are 0.
+    Zeros,
+    /// The choices of one cabinet are at random.
+    ChoiceRow,
+    /// The costs of one cabinet are.
+    CostRow,
+}
+
+impl Breach {
+    pub const ALL: [Breach; 9] = [
+        Breach::TwoCabinets,
+        Breach::Parent,
+        Breach::OtherRoad,
+        Breach::OtherSizes,
+        Breach::Noise,
+        Breach::Ones,
+        Breach::Zeros,
+        Breach::ChoiceRow,
+        Breach::CostRow,
+    ];
+}
+
+/// An edit that breaks the rule: the sheet whose tables are kept, how they are damaged, and the
+/// cabinet and the sheet of the edit.
+pub struct Broken {
+    pub kept: Sheet,
+    pub cabinet: usize,
+    pub edited: Sheet,
+}
+
+/// A road and another one, which the tables are not of.
+pub fn broken(random: &mut Random, breach: Breach, sheet: &Sheet) -> Broken {
+    let cabinet = some_cabinet(random, sheet);
+    let mut kept = sheet.clone();
+    let mut edited = sheet.clone();
+    edited.cabinets[cabinet] = other_record(random, sheet, cabinet);
+    match breach {
+        Breach::TwoCabinets => {
+            let other = some_cabinet(random, sheet);
+            edited.cabinets[other] = other_record(random, sheet, other);
+        }
+        Breach::Parent => {
+            let moved = random.between(0, sheet.cabinets.len() - 1);
+            let moved = random.pick(&[cabinet, moved, moved]);
+            if moved > 0 {
+                edited.cabinets[moved].parent = random.below(moved) as u16;
+            }
+        }
+        Breach::OtherRoad => kept = other_road(random, sheet, false),
+        Breach::OtherSizes => kept = other_road(random, sheet, true),
+        _ => {}
+    }
+    Broken {
+        kept,
+        cabinet,
+        edited,
+    }
+}
+
+/// Another road, of as many services and cabinets or of about as many.
+fn other_road(random: &mut Random, sheet: &Sheet, resized: bool) -> Sheet {
+    let (mut r, mut s) = (sheet.services.len(), sheet.cabinets.len());
+    if resized {
+        let low = r.saturating_sub(2);
+        r = random.between(low, (low + 3).min(SERVICES));
+        let low = s.saturating_sub(2).max(1);
+        s = random.between(low, (low + 4).min(CABINETS));
+    }
+    let scale = random.pick(&[Scale::Small, Scale::Small, Scale::Ties]);
+    let mut other = of_numbers(random, r, s, scale);
+    other.barred = bars(random, &other);
+    other
+}
+
+/// Damages tables in the manner of a breach; rows are of so many entries.
+pub fn spoil(random: &mut Random, breach: Breach, row: usize, tables: &mut Tables) {
+    let cabinet = random.below(tables.costs.len() / row);
+    let places = cabinet * row..(cabinet + 1) * row;
+    match breach {
+        Breach::Noise => {
+            let choices_too = !random.once_in(3);
+            tables.costs.fill_with(|| figure(random));
+            if choices_too {
+                tables.choices.fill_with(|| random.next() as u16);
+            }
+        }
+        Breach::Ones => {
+            tables.costs.fill(u64::MAX);
+            tables.choices.fill(u16::MAX);
+        }
+        Breach::Zeros => {
+            tables.costs.fill(0);
+            tables.choices.fill(0);
+        }
+        Breach::ChoiceRow => {
+            let row = &mut tables.choices[places];
+            row.fill_with(|| random.next() as u16);
+        }
+        Breach::CostRow => tables.costs[places].fill_with(|| figure(random)),
+        _ => {}
+    }
+}
+
+/// A figure of any size, often a small one or about the largest cost.
+fn figure(random: &mut Random) -> u64 {
+    let (small, any) = (random.below(20) as u64, random.next());
+    let near = NONE - 3 + random.below(5) as u64;
+    random.pick(&[0, small, small, small, small, small, near, any % NONE, any])
+}
