@@ -68,6 +68,16 @@ impl<T: Dirt> Guarded<T> {
         &mut self.all[GUARD..GUARD + self.length]
     }
 
+    /// What the places held before.
+    pub fn before(&self) -> &[T] {
+        &self.before[GUARD..GUARD + self.length]
+    }
+
+    /// What is there now is what was there before the next call.
+    pub fn settle(&mut self) {
+        self.before.clone_from(&self.all);
+    }
+
     /// The places as an array of their number.
     pub fn array<const N: usize>(&mut self) -> &mut [T; N] {
         self.inside_mut().try_into().expect("an array's length")

@@ -4,15 +4,22 @@
 
 mod alike;
 mod bills;
+mod breaker;
 mod checks;
+mod editor;
+mod event;
 mod figures;
 mod guarded;
+mod keeper;
+mod memory;
 mod planner;
 mod reader;
+mod refused;
 mod subject;
 mod tally;
 mod writer;
 
+pub use event::Event;
 pub use figures::compare_bounds;
 pub use subject::Subject;
 pub use tally::Tally;
@@ -21,6 +28,7 @@ use alike::Alike;
 use bills::Road;
 use second::hex::dump;
 use second::random::{Case, Random};
+use second::{Sheet, Tables};
 
 /// Makes all calls of a case, and some of those that take no sheet. The error tells the first
 /// difference.
@@ -57,11 +65,45 @@ fn calls(
     if let Some(plan) = billed_by_limits(case) {
         bills::limits(subject, &road, plan, random, tally)?;
     }
-    for &lent in &case.lent {
-        planner::plan(subject, &alike, lent, random, tally)?;
+    plans(subject, case, &alike, &right, random, tally)?;
+    if let Ok(records) = &right {
+        edits(subject, records, random, tally)?;
     }
     figures::weigh(subject, random, tally)?;
     figures::bound(subject, random, tally)
+}
+
+/// The planner and the keeping call with all that is lent.
+fn plans(
+    subject: &dyn Subject,
+    case: &Case,
+    alike: &Alike,
+    records: &Result<Sheet, u64>,
+    random: &mut Random,
+    tally: &mut Tally,
+) -> Result<(), String> {
+    let tables = records.as_ref().map_or(Tables::default(), keeper::tables);
+    for &lent in &case.lent {
+        let right = planner::right(&case.sheet, lent);
+        planner::plan(subject, alike, lent, &right, random, tally)?;
+        keeper::keep(subject, alike, lent, (&right, &tables), random, tally)?;
+    }
+    Ok(())
+}
+
+/// A list of edits, and some that break the rule.
+fn edits(
+    subject: &dyn Subject,
+    records: &Sheet,
+    random: &mut Random,
+    tally: &mut Tally,
+) -> Result<(), String> {
+    editor::edits(subject, records, random, tally)?;
+    let breaches = if editor::is_small(records) { 3 } else { 1 };
+    for _ in 0..breaches {
+        breaker::breach(subject, records, random, tally)?;
+    }
+    Ok(())
 }
 
 /// The first plan of a case that is valid, or else the first.

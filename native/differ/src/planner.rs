@@ -13,19 +13,19 @@ pub fn plan(
     subject: &dyn Subject,
     alike: &Alike,
     lent: Lent,
+    right: &Answer,
     random: &mut Random,
     tally: &mut Tally,
 ) -> Result<(), String> {
-    let right = right(alike.sheet, lent);
     alike.each(|sheet| {
-        solve(subject, sheet, lent, &right, random)?;
+        solve(subject, sheet, lent, right, random)?;
         tally.answer("plan", right.refusal);
         Ok(())
     })?;
     if right.ties > 0 {
         tally.tie(is_large(alike.sheet));
     }
-    if framing_decides(alike.sheet, &right) {
+    if framing_decides(alike.sheet, right) {
         tally.framed_road();
     }
     Ok(())
@@ -77,7 +77,7 @@ fn solve(
 
 /// The output's name, with what was written where the first plan should be, and what the check says
 /// of that.
-fn written(sheet: &[u8], output: &Guarded<u16>, plan: &[u16]) -> String {
+pub fn written(sheet: &[u8], output: &Guarded<u16>, plan: &[u16]) -> String {
     let written = &output.inside()[..plan.len()];
     match written == plan {
         true => "output".to_string(),
@@ -94,7 +94,7 @@ fn is_large(sheet: &[u8]) -> bool {
 }
 
 /// The right answer, from the planner that tries every plan or, for a large road, by least costs.
-fn right(sheet: &[u8], lent: Lent) -> Answer {
+pub fn right(sheet: &[u8], lent: Lent) -> Answer {
     let Lent {
         output,
         costs,

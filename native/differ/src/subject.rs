@@ -21,6 +21,25 @@ pub trait Subject {
         choices: &mut [u16],
         answer: &mut [u64; 3],
     ) -> u64;
+    /// Answer: group, cost, count.
+    fn keep(
+        &self,
+        sheet: &[u8],
+        output: &mut [u16],
+        costs: &mut [u64],
+        choices: &mut [u16],
+        answer: &mut [u64; 3],
+    ) -> u64;
+    /// Answer: group, cost, count.
+    fn edit(
+        &self,
+        sheet: &[u8],
+        cabinet: usize,
+        output: &mut [u16],
+        costs: &mut [u64],
+        choices: &mut [u16],
+        answer: &mut [u64; 3],
+    ) -> u64;
     /// Tariff: block price, slot price, tax rate. Answer: group, net, tax, total.
     fn bill(
         &self,

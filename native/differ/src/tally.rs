@@ -1,6 +1,8 @@
 //! Counts of cases by kind, of calls by answer, of plans that were not the only cheapest, of what
-//! framing decided, of the features of bills, and of the forms of sheets that were copied.
+//! framing decided, of the features of bills, of what came up among edits, and of the forms of
+//! sheets that were copied.
 
+use crate::Event;
 use second::feature::Feature;
 use second::form::{Form, forms};
 use second::random::Case;
@@ -18,6 +20,8 @@ pub struct Tally {
     framed_plans: usize,
     framed_roads: usize,
     features: BTreeMap<Feature, usize>,
+    lists: usize,
+    events: BTreeMap<Event, usize>,
     forms: BTreeMap<Form, usize>,
 }
 
@@ -87,6 +91,26 @@ impl Tally {
         self.features.get(&feature).copied().unwrap_or(0)
     }
 
+    /// Notes a list of edits.
+    pub fn list(&mut self) {
+        self.lists += 1;
+    }
+
+    /// How many lists of edits there were.
+    pub fn lists(&self) -> usize {
+        self.lists
+    }
+
+    /// Notes what came up among edits.
+    pub fn event(&mut self, event: Event) {
+        *self.events.entry(event).or_default() += 1;
+    }
+
+    /// How often this came up among edits.
+    pub fn met(&self, event: Event) -> usize {
+        self.events.get(&event).copied().unwrap_or(0)
+    }
+
     /// Notes the form of a sheet whose tidy copy was compared.
     pub fn forms(&mut self, sheet: &[u8]) {
         for form in forms(sheet) {
@@ -131,6 +155,11 @@ impl Display for Tally {
         writeln!(f, "bills, by feature:")?;
         for (feature, times) in &self.features {
             writeln!(f, "{times:9} {feature:?}")?;
+        }
+        writeln!(f, "lists of edits, and what came up in them:")?;
+        writeln!(f, "{:9} lists", self.lists)?;
+        for (event, times) in &self.events {
+            writeln!(f, "{times:9} {event:?}")?;
         }
         writeln!(f, "sheets copied, by form:")?;
         for (form, times) in &self.forms {

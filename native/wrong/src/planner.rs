@@ -75,7 +75,7 @@ impl Faulty {
     }
 
     /// The refusal of the lengths of output, cost table and choice table, or 0.
-    fn short(&self, sheet: &Sheet, [output, costs, choices]: [usize; 3]) -> u64 {
+    pub fn short(&self, sheet: &Sheet, [output, costs, choices]: [usize; 3]) -> u64 {
         let places = sheet.services.len() + usize::from(self.has(Fault::PlanExactOutput));
         let entries = sheet.cabinets.len() << sheet.services.len();
         let entries = entries + usize::from(self.has(Fault::PlanExactTable));
@@ -90,10 +90,17 @@ impl Faulty {
 
     /// The rows, which hold at first what the tables held.
     pub fn rows(&self, sheet: &Sheet, costs: &[u64], choices: &[u16]) -> Rows {
+        let mut rows = self.loaded(sheet, costs, choices);
+        self.fill(sheet, &mut rows);
+        rows
+    }
+
+    /// Rows that hold what the tables do, without keys.
+    pub fn loaded(&self, sheet: &Sheet, costs: &[u64], choices: &[u16]) -> Rows {
         let (s, n) = (sheet.cabinets.len(), 1_usize << sheet.services.len());
         let cost = |i: usize| costs.get(i).copied().unwrap_or(0);
         let choice = |i: usize| usize::from(choices.get(i).copied().unwrap_or(0));
-        let mut rows = Rows {
+        Rows {
             costs: (0..s)
                 .map(|c| (0..n).map(|x| cost(c * n + x)).collect())
                 .collect(),
@@ -101,10 +108,9 @@ impl Faulty {
                 .map(|c| (0..n).map(|x| choice(c * n + x)).collect())
                 .collect(),
             keys: vec![vec![]; s],
+            counted: (0..s).map(|c| choice(c * n) as u64).collect(),
             count: 0,
-        };
-        self.fill(sheet, &mut rows);
-        rows
+        }
     }
 
     /// Writes the plan and leaves the tables as they should be.
@@ -147,7 +153,7 @@ impl Faulty {
     }
 
     /// The plan by the choices kept.
-    fn read_back(&self, sheet: &Sheet, rows: &Rows) -> Vec<u16> {
+    pub fn read_back(&self, sheet: &Sheet, rows: &Rows) -> Vec<u16> {
         let (r, s) = (sheet.services.len(), sheet.cabinets.len());
         let mut plan = vec![0; r];
         let mut held = vec![0; s];

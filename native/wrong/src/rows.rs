@@ -11,11 +11,12 @@ use second::splits::{count_over, part_before};
 pub const NONE: u64 = 1_000_000_000_000_001;
 
 /// Costs, choices, and the keys of what the choices give each set, a row of sets for each cabinet;
-/// and the count.
+/// the splits counted when each cabinet was joined; and the count.
 pub struct Rows {
     pub costs: Vec<Vec<u64>>,
     pub choices: Vec<Vec<usize>>,
     pub keys: Vec<Vec<Key>>,
+    pub counted: Vec<u64>,
     pub count: u64,
 }
 
@@ -26,28 +27,41 @@ pub fn children(sheet: &Sheet, p: usize) -> Vec<usize> {
         .collect()
 }
 
+/// The subsets of a set, in falling order.
+fn subsets(set: usize) -> impl Iterator<Item = usize> {
+    let next = move |&a: &usize| (a != 0).then(|| (a - 1) & set);
+    std::iter::successors(Some(set), next)
+}
+
 impl Faulty {
     /// Fills rows that hold something already.
     pub fn fill(&self, sheet: &Sheet, rows: &mut Rows) {
         rows.count = 0;
         let bars = self.bars(sheet);
         for p in (0..sheet.cabinets.len()).rev() {
-            let mut below = children(sheet, p);
-            let barred = self.barred_at(sheet, &bars, p);
-            self.own(sheet, p, below.is_empty(), barred, &mut rows.costs[p]);
-            rows.keys[p] = self.own_keys(sheet, p);
-            if self.has(Fault::PlanFallingChildren) {
-                below.reverse();
-            }
-            let leaf = p == 0 && below.len() == 1 && self.has(Fault::PlanRootLeaf);
-            if leaf || self.has(Fault::PlanOnRoot) {
-                below.clear();
-            }
-            for c in below {
-                self.join(sheet, p, c, rows);
-            }
+            self.rebuild(sheet, &bars, p, rows);
         }
         self.recount(sheet, rows);
+    }
+
+    /// Rebuilds the row of p and joins its children to it.
+    pub fn rebuild(&self, sheet: &Sheet, bars: &[usize], p: usize, rows: &mut Rows) {
+        let mut below = children(sheet, p);
+        let barred = self.barred_at(sheet, bars, p);
+        self.own(sheet, p, below.is_empty(), barred, &mut rows.costs[p]);
+        rows.keys[p] = self.own_keys(sheet, p);
+        if self.has(Fault::PlanFallingChildren) {
+            below.reverse();
+        }
+        let leaf = p == 0 && below.len() == 1 && self.has(Fault::PlanRootLeaf);
+        if leaf || self.has(Fault::PlanOnRoot) {
+            below.clear();
+        }
+        for c in below {
+            let before = rows.count;
+            self.join(sheet, p, c, rows);
+            rows.counted[c] = rows.count - before;
+        }
     }
 
     /// Counts made in another way than by joining.
@@ -134,7 +148,7 @@ impl Faulty {
         charge: impl Fn(usize) -> u64,
     ) -> Split {
         let mut best = Best::none();
-        for stays in (0..=set).rev().filter(|a| a & !set == 0) {
+        for stays in subsets(set) {
             let left_out = stays == 0 && self.has(Fault::PlanWithoutEmpty)
                 || stays == set && self.has(Fault::PlanWithoutFull);
             if left_out {

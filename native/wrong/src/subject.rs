@@ -2,10 +2,12 @@
 
 use crate::Fault;
 use crate::fourth::once;
+use crate::keep::Lent;
 use differ::Subject;
 use second::{Cabinet, Pair, Sheet, group};
 
 /// An implementation with this fault, or with none.
+#[derive(Clone)]
 pub struct Faulty(pub Option<Fault>);
 
 impl Faulty {
@@ -120,6 +122,47 @@ impl Subject for Faulty {
     ) -> u64 {
         let (refusal, values) = self.plan_answer(sheet, output, costs, choices);
         if refusal == 0 || !self.has(Fault::PlanAnswerKept) {
+            *answer = values;
+        }
+        refusal
+    }
+
+    fn keep(
+        &self,
+        sheet: &[u8],
+        output: &mut [u16],
+        costs: &mut [u64],
+        choices: &mut [u16],
+        answer: &mut [u64; 3],
+    ) -> u64 {
+        let lent = Lent {
+            output,
+            costs,
+            choices,
+        };
+        let (refusal, values) = self.keep_answer(sheet, lent);
+        if refusal == 0 || !self.has(Fault::KeepAnswerKept) {
+            *answer = values;
+        }
+        refusal
+    }
+
+    fn edit(
+        &self,
+        sheet: &[u8],
+        cabinet: usize,
+        output: &mut [u16],
+        costs: &mut [u64],
+        choices: &mut [u16],
+        answer: &mut [u64; 3],
+    ) -> u64 {
+        let lent = Lent {
+            output,
+            costs,
+            choices,
+        };
+        let (refusal, values) = self.edit_answer(sheet, cabinet, lent);
+        if refusal == 0 || !self.has(Fault::EditAnswerKept) {
             *answer = values;
         }
         refusal
