@@ -79,7 +79,8 @@ struct List<'a> {
 }
 
 impl List<'_> {
-    /// The next edit, with calls that are refused before it, and a keeping call beside it.
+    /// The next edit, with calls that are refused before it, and on small roads a keeping call
+    /// beside it.
     fn edit(&mut self, random: &mut Random, tally: &mut Tally) -> Result<(), String> {
         let cabinet = match self.before == 12 && random.once_in(2) {
             true => self.edits.back(random),
@@ -98,7 +99,9 @@ impl List<'_> {
         }
         let sheet = some_sheet(random, &records);
         self.call(Asked::Edit(cabinet), &sheet, &right, random)?;
-        self.keep_beside(&records, &sheet, &right, random)?;
+        if is_small(&records) {
+            self.keep_beside(&records, &sheet, &right, random)?;
+        }
         tally.answer("edit", right.answer.refusal);
         self.note(&records, cabinet, right.answer.refusal, tally);
         self.before = right.answer.refusal;

@@ -9,7 +9,7 @@ use second::random::{Lent, Random};
 use second::{Answer, Sheet, Tables};
 
 /// So many placings are tried for the tables at most; if there are more, they are filled by rows.
-const FEW_PLACINGS: u64 = 1200;
+const FEW_PLACINGS: u64 = 2500;
 
 /// A right answer, and what the first entries of the tables hold then.
 pub struct Right {

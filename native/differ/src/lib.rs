@@ -99,7 +99,10 @@ fn edits(
     tally: &mut Tally,
 ) -> Result<(), String> {
     editor::edits(subject, records, random, tally)?;
-    let breaches = if editor::is_small(records) { 3 } else { 1 };
+    let breaches = match editor::is_small(records) {
+        true => 3,
+        false => random.below(2),
+    };
     for _ in 0..breaches {
         breaker::breach(subject, records, random, tally)?;
     }

@@ -44,17 +44,12 @@ pub fn tables(sheet: &Sheet) -> Tables {
     }
 }
 
-/// How many placings are tried for the tables, or a few more.
+/// No more placings than this are tried for the tables: three parts for each cabinet, of no more
+/// cabinets than the road has.
 pub fn placings(sheet: &Sheet) -> u64 {
-    let s = sheet.cabinets.len();
-    let on = |part: Part| {
-        let places = part.cabinets.len() as u64 + 1;
-        places.saturating_pow(sheet.services.len() as u32)
-    };
-    let rows = (0..s).map(|p| on(Part::new(sheet, p, s)));
-    let joins = (1..s).map(|c| on(Part::new(sheet, usize::from(sheet.cabinets[c].parent), c)));
-    let both = rows.chain(joins.map(|placings| placings.saturating_mul(2)));
-    both.fold(0, u64::saturating_add)
+    let s = sheet.cabinets.len() as u64;
+    let r = sheet.services.len() as u32;
+    (s + 1).saturating_pow(r).saturating_mul(3 * s)
 }
 
 /// A cabinet, its children up to some number, and all cabinets under those.

@@ -12,7 +12,7 @@ impl Faulty {
             Ok(sheet) => sheet,
             Err(refusal) => {
                 if self.has(Fault::EditTouchedInReader) {
-                    lent.clear(1);
+                    lent.touch();
                 }
                 return refused(refusal);
             }
@@ -21,7 +21,7 @@ impl Faulty {
         let refusal = self.edit_refusal(&sheet, cabinet, lent.lengths());
         if refusal != 0 {
             if self.touches(refusal) {
-                lent.clear(1);
+                lent.touch();
             }
             let (refusal, mut values) = refused(refusal);
             if refusal == 14 && self.has(Fault::EditGroup14) {

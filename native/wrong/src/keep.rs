@@ -17,6 +17,12 @@ impl Lent<'_> {
         [self.output.len(), self.costs.len(), self.choices.len()]
     }
 
+    /// Changes the first entry of both tables.
+    pub fn touch(&mut self) {
+        self.costs.iter_mut().take(1).for_each(|e| *e ^= 1);
+        self.choices.iter_mut().take(1).for_each(|e| *e ^= 1);
+    }
+
     /// Sets as many of the first entries of both tables to 0.
     pub fn clear(&mut self, entries: usize) {
         self.costs.iter_mut().take(entries).for_each(|e| *e = 0);
@@ -36,7 +42,7 @@ impl Faulty {
             Ok(sheet) => sheet,
             Err(refusal) => {
                 if self.has(Fault::KeepTouchedInReader) {
-                    lent.clear(1);
+                    lent.touch();
                 }
                 return refused(refusal);
             }
@@ -48,7 +54,7 @@ impl Faulty {
                 _ => self.has(Fault::KeepTouchedIn11),
             };
             if touched {
-                lent.clear(1);
+                lent.touch();
             }
             return refused(short);
         }

@@ -86,7 +86,7 @@ impl Faulty {
     pub fn child_keys(&self, rows: &Rows, p: usize, c: usize) -> Vec<Key> {
         match self.0 {
             Some(Fault::KeyChildZero) => vec![Key::default(); rows.keys[c].len()],
-            Some(Fault::KeyLastRow) => rows.keys[p + 1].clone(),
+            Some(Fault::KeyLastRow) if !rows.keys[p + 1].is_empty() => rows.keys[p + 1].clone(),
             _ => rows.keys[c].clone(),
         }
     }
