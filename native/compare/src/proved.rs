@@ -41,6 +41,29 @@ impl Subject for Proved {
         calls::plan(sheet, output, costs, choices, answer)
     }
 
+    fn keep(
+        &self,
+        sheet: &[u8],
+        output: &mut [u16],
+        costs: &mut [u64],
+        choices: &mut [u16],
+        answer: &mut [u64; 3],
+    ) -> u64 {
+        calls::keep(sheet, output, costs, choices, answer)
+    }
+
+    fn edit(
+        &self,
+        sheet: &[u8],
+        cabinet: usize,
+        output: &mut [u16],
+        costs: &mut [u64],
+        choices: &mut [u16],
+        answer: &mut [u64; 3],
+    ) -> u64 {
+        calls::edit(sheet, cabinet, output, costs, choices, answer)
+    }
+
     fn bill(
         &self,
         sheet: &[u8],

@@ -74,6 +74,56 @@ pub fn plan(
     }
 }
 
+/// `gz_keep`: the refusal; the answer is group, cost, count.
+pub fn keep(
+    sheet: &[u8],
+    output: &mut [u16],
+    costs: &mut [u64],
+    choices: &mut [u16],
+    answer: &mut [u64; 3],
+) -> u64 {
+    // SAFETY: see the head of this file.
+    unsafe {
+        raw::gz_keep(
+            sheet.as_ptr(),
+            sheet.len(),
+            output.as_mut_ptr(),
+            output.len(),
+            costs.as_mut_ptr(),
+            costs.len(),
+            choices.as_mut_ptr(),
+            choices.len(),
+            answer,
+        )
+    }
+}
+
+/// `gz_edit`: the refusal; the answer is group, cost, count.
+pub fn edit(
+    sheet: &[u8],
+    cabinet: usize,
+    output: &mut [u16],
+    costs: &mut [u64],
+    choices: &mut [u16],
+    answer: &mut [u64; 3],
+) -> u64 {
+    // SAFETY: see the head of this file.
+    unsafe {
+        raw::gz_edit(
+            sheet.as_ptr(),
+            sheet.len(),
+            cabinet,
+            output.as_mut_ptr(),
+            output.len(),
+            costs.as_mut_ptr(),
+            costs.len(),
+            choices.as_mut_ptr(),
+            choices.len(),
+            answer,
+        )
+    }
+}
+
 /// `gz_bill`: the refusal; the answer is group, net, tax, total.
 pub fn bill(
     sheet: &[u8],

@@ -44,6 +44,29 @@ unsafe extern "C" {
         choices_len: usize,
         answer: *mut [u64; 3],
     ) -> u64;
+    pub fn gz_keep(
+        sheet: *const u8,
+        sheet_len: usize,
+        output: *mut u16,
+        output_len: usize,
+        costs: *mut u64,
+        costs_len: usize,
+        choices: *mut u16,
+        choices_len: usize,
+        answer: *mut [u64; 3],
+    ) -> u64;
+    pub fn gz_edit(
+        sheet: *const u8,
+        sheet_len: usize,
+        cabinet: usize,
+        output: *mut u16,
+        output_len: usize,
+        costs: *mut u64,
+        costs_len: usize,
+        choices: *mut u16,
+        choices_len: usize,
+        answer: *mut [u64; 3],
+    ) -> u64;
     pub fn gz_bill(
         sheet: *const u8,
         sheet_len: usize,

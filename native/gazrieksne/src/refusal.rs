@@ -53,7 +53,7 @@ impl Display for Refusal {
             11 => "a table is too short",
             12 => "no valid plan exists",
             13 => "the plan hasn't one place a service",
-            14 => "the plan names a cabinet that isn't there",
+            14 => "the plan or the edit names a cabinet that isn't there",
             15 => "a cabinet is overfull",
             16 => "a link direction is overfull, framing counted",
             18 => "the block of barred pairs is not within the sheet, has too many pairs, or shares a byte",
@@ -61,6 +61,7 @@ impl Display for Refusal {
             20 => "a service is on a cabinet that it is barred from",
             21 => "the output is too short for the sheet to be written",
             22 => "a price or the tax rate is outside its limits, or there are too few places for the lines",
+            23 => "the tables are not those of a sheet that differs only in this cabinet: run keep again",
             _ => "an unknown refusal",
         })
     }

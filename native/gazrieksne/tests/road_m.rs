@@ -105,6 +105,113 @@ fn framing() {
     assert_eq!((planned, output), (Err(no_plan), [1, 2]));
 }
 
+/// A figure that is no cost.
+const NONE: u64 = 1_000_000_000_000_001;
+
+/// The tables that M leaves, by hand: alone, service 0 is cheapest on 1 for 2 and the stream of 3 up
+/// at 2, and service 1 there for 2 and the stream down at 1.
+const COSTS: [u64; 12] = [0, 8, 5, 15, 0, 2, 2, NONE, 0, 4, 4, NONE];
+const CHOICES: [u16; 12] = [0, 0, 0, 0, 9, 0, 0, 1, 9, 1, 2, 3];
+
+#[test]
+fn kept_tables() {
+    let (mut output, mut costs, mut choices) = ([9; 3], [9; 13], [9; 13]);
+    let kept = gazrieksne::keep(&m(), &mut output, &mut costs, &mut choices);
+    let right = Planned {
+        cost: 15,
+        count: 18,
+    };
+    assert_eq!((kept, output), (Ok(right), [0, 1, 9]));
+    assert_eq!((&costs[..12], costs[12]), (&COSTS[..], 9));
+    assert_eq!((&choices[..12], choices[12]), (&CHOICES[..], 9));
+    let refusal = gazrieksne::keep(&m(), &mut output, &mut costs[..11], &mut choices).unwrap_err();
+    assert_eq!((refusal.number, refusal.group), (11, Group::Lender));
+    assert_eq!((&costs[..12], &choices[..12]), (&COSTS[..], &CHOICES[..]));
+}
+
+/// M with another root capacity and another price of cabinet 2.
+fn m_edited(root: u16, price: u16) -> Vec<u8> {
+    let mut words = M;
+    words[11] = root;
+    words[26] = price;
+    words.iter().flat_map(|w| w.to_le_bytes()).collect()
+}
+
+/// Cabinet 2 gets dearer, so that only (0, 1) is left at 15; the root shuts, so that (1, 2) is all
+/// there is, at 2 + 6 + 3 + 2 * 3; and 2 is cheap, with the root shut and with the root open.
+#[test]
+fn edits() {
+    let (mut output, mut costs, mut choices) = ([9; 3], [9; 12], [9; 12]);
+    let (mut other, mut costs_kept, mut choices_kept) = ([9; 3], [7; 12], [7; 12]);
+    let kept = gazrieksne::keep(&m(), &mut output, &mut costs, &mut choices);
+    assert_eq!(kept.map(|planned| planned.cost), Ok(15));
+    for (cabinet, root, price, cost, count, plan) in [
+        (2, 4, 3, 15, 18, [0, 1]),
+        (0, 0, 3, 17, 12, [1, 2]),
+        (2, 0, 0, 11, 12, [1, 2]),
+        (0, 4, 0, 11, 18, [1, 2]),
+    ] {
+        let sheet = m_edited(root, price);
+        let edited = gazrieksne::edit(&sheet, cabinet, &mut output, &mut costs, &mut choices);
+        assert_eq!(edited, Ok(Planned { cost, count }));
+        assert_eq!((&output[..2], output[2]), (&plan[..], 9));
+        let kept = gazrieksne::keep(&sheet, &mut other, &mut costs_kept, &mut choices_kept);
+        assert_eq!((kept, other), (edited, output));
+        assert_eq!((costs, choices), (costs_kept, choices_kept));
+    }
+}
+
+/// No refusal before 12 writes anything, and 12 leaves what the next edit needs.
+#[test]
+fn edits_refused() {
+    let (mut output, mut costs, mut choices) = ([9; 3], COSTS, CHOICES);
+    for cabinet in [3, 4, usize::MAX] {
+        let refused = gazrieksne::edit(&m(), cabinet, &mut output, &mut costs, &mut choices);
+        let number = refused.map_err(|refusal| (refusal.number, refusal.group, refusal.count));
+        assert_eq!(number, Err((14, Group::PlanWriter, 0)));
+    }
+    let refusal = gazrieksne::edit(&m(), 3, &mut output[..1], &mut costs, &mut choices);
+    assert_eq!(refusal.map_err(|refusal| refusal.number), Err(10));
+    let refusal = gazrieksne::edit(&m(), 3, &mut output, &mut costs, &mut choices[..11]);
+    assert_eq!(refusal.map_err(|refusal| refusal.number), Err(11));
+    assert_eq!((output, costs, choices), ([9; 3], COSTS, CHOICES));
+    // Two edits on, nothing carries the stream to the only cabinets with room.
+    let edited = gazrieksne::edit(&m0(6), 0, &mut output, &mut costs, &mut choices);
+    assert_eq!(
+        (edited.map(|planned| planned.cost), output),
+        (Ok(15), [1, 2, 9])
+    );
+    let no_plan = Refusal {
+        number: 12,
+        group: Group::Road,
+        count: 10,
+    };
+    let edited = gazrieksne::edit(&m0(4), 1, &mut output, &mut costs, &mut choices);
+    assert_eq!((edited, output), (Err(no_plan), [1, 2, 9]));
+    let edited = gazrieksne::edit(&m0(6), 1, &mut output, &mut costs, &mut choices);
+    assert_eq!(
+        (edited.map(|planned| planned.cost), output),
+        (Ok(15), [1, 2, 9])
+    );
+}
+
+/// With all entries 0 the row of 1 says that both services cost nothing there. An edit of 2 takes
+/// that for true, and the plan that the choices name then overfills 1.
+#[test]
+fn edits_of_other_tables() {
+    let (mut output, mut costs, mut choices) = ([9; 2], [0; 12], [0; 12]);
+    let refusal = gazrieksne::edit(&m(), 2, &mut output, &mut costs, &mut choices).unwrap_err();
+    let unlike = Refusal {
+        number: 23,
+        group: Group::PlanWriter,
+        count: 0,
+    };
+    assert_eq!((refusal, output), (unlike, [9; 2]));
+    assert!(refusal.to_string().contains("run keep again"));
+    assert_eq!((&costs[4..8], &choices[..4]), (&[0; 4][..], &[0; 4][..]));
+    assert_eq!(costs[8..], COSTS[8..]);
+}
+
 #[test]
 fn barred_pairs() {
     let sheet = m_barred(&[[0, 0], [1, 2]]);
