@@ -2,12 +2,13 @@
 //! without it proves little.
 
 use crate::Options;
-use differ::Tally;
+use differ::{Event, Tally};
 use second::feature::Feature;
 use second::form::Form;
 
 /// So many random cases must have among them plans of which others cost as much, plans and roads
-/// that framing decides, every kind of answer of the writer, and sheets of every form.
+/// that framing decides, edits of every kind, every kind of answer of the writer, and sheets of every
+/// form.
 const ENOUGH_CASES: usize = 1000;
 /// So many must have among them bills with every feature that chance gives; few roads have loads of
 /// about whole blocks.
@@ -43,12 +44,21 @@ pub fn missing(options: &Options, before: &Tally, after: &Tally) -> Option<Strin
     if after.framed_roads() == before.framed_roads() {
         return Some("no random road had an answer that framing decides".to_string());
     }
+    if let Some(event) = unmet(before, after) {
+        return Some(format!("among random edits there was no {event:?}"));
+    }
     if options.cases >= ENOUGH_BILLS
         && let Some(feature) = unbilled(before, after, Feature::comes_by_chance)
     {
         return Some(format!("no random bill had the feature {feature:?}"));
     }
     copies(before, after)
+}
+
+/// The first that did not come up among edits between two tallies.
+fn unmet(before: &Tally, after: &Tally) -> Option<Event> {
+    let mut all = Event::all().into_iter();
+    all.find(|&event| before.met(event) == after.met(event))
 }
 
 /// The first of some features that no bill had between two tallies.
@@ -88,14 +98,22 @@ mod tests {
         tally
     }
 
-    /// The same after ties, what framing decides, more of these bills, these answers of the writer,
-    /// and the copies of these sheets.
+    /// Notes these edits.
+    fn edit(tally: &mut Tally, events: &[Event]) {
+        for &event in events {
+            tally.event(event);
+        }
+    }
+
+    /// The same after ties, what framing decides, edits of every kind, more of these bills, these
+    /// answers of the writer, and the copies of these sheets.
     fn tally(features: &[Feature], answers: &[u64], sheets: &[&str]) -> Tally {
         let mut tally = written_down();
         tally.tie(false);
         tally.tie(true);
         tally.framed_plan();
         tally.framed_road();
+        edit(&mut tally, &Event::all());
         tally.bill(features);
         for &answer in answers {
             tally.answer("tidy", answer);
@@ -145,7 +163,7 @@ mod tests {
         after.framed_plan();
         assert!(missed(&after).contains("framing decides"));
         after.framed_road();
-        assert!(missed(&after).contains("random bill"));
+        assert!(missed(&after).contains("random edits"));
         let before = after.clone();
         after.tie(false);
         after.tie(true);
@@ -153,6 +171,28 @@ mod tests {
         assert!(stale(&after).is_some_and(|what| what.contains("for framing alone")));
         after.framed_plan();
         assert!(stale(&after).is_some_and(|what| what.contains("framing decides")));
+    }
+
+    /// Each event is asked for by itself, and only of enough random cases.
+    #[test]
+    fn edits() {
+        for left_out in Event::all() {
+            let mut others = Event::all();
+            others.retain(|&event| event != left_out);
+            let mut after = written_down();
+            after.tie(false);
+            after.tie(true);
+            after.framed_plan();
+            after.framed_road();
+            edit(&mut after, &others);
+            let missed = since_written_down(&after).unwrap_or_default();
+            assert!(missed.contains(&format!("{left_out:?}")), "{missed}");
+            edit(&mut after, &[left_out]);
+            let missed = since_written_down(&after).unwrap_or_default();
+            assert!(missed.contains("random bill"), "{missed}");
+            let stale = missing(&Options::default(), &after, &after);
+            assert!(stale.is_some_and(|what| !what.contains("random edits")));
+        }
     }
 
     /// All features but one.

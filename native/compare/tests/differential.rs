@@ -1,6 +1,7 @@
 //! The proved planner and the second one give the same answers, and every refusal is among them.
 
 use compare::{Options, run};
+use differ::Event;
 use second::feature::Feature;
 
 #[test]
@@ -20,6 +21,14 @@ fn no_difference_and_every_refusal() {
     }
     for refusal in (0..=12).chain([18, 19]) {
         assert!(tally.times("plan", refusal) > 0, "plan: {refusal}");
+        assert!(tally.times("keep", refusal) > 0, "keep: {refusal}");
+    }
+    for refusal in (0..=12).chain([14, 18, 19, 23]) {
+        assert!(tally.times("edit", refusal) > 0, "edit: {refusal}");
+    }
+    assert!(tally.lists() > 2000, "{} lists of edits", tally.lists());
+    for event in Event::all() {
+        assert!(tally.met(event) > 10, "{event:?}: {}", tally.met(event));
     }
     for refusal in (0..=9).chain(13..=16).chain([18, 19, 20, 22]) {
         assert!(tally.times("bill", refusal) > 0, "bill: {refusal}");

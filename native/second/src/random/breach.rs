@@ -62,16 +62,11 @@ pub fn broken(random: &mut Random, breach: Breach, sheet: &Sheet) -> Broken {
     edited.cabinets[cabinet] = other_record(random, sheet, cabinet);
     match breach {
         Breach::TwoCabinets => {
-            let other = some_cabinet(random, sheet);
+            let s = sheet.cabinets.len();
+            let other = (cabinet + 1 + random.below(s - 1)) % s;
             edited.cabinets[other] = other_record(random, sheet, other);
         }
-        Breach::Parent => {
-            let moved = random.between(0, sheet.cabinets.len() - 1);
-            let moved = random.pick(&[cabinet, moved, moved]);
-            if moved > 0 {
-                edited.cabinets[moved].parent = random.below(moved) as u16;
-            }
-        }
+        Breach::Parent => move_one(random, &mut edited, cabinet),
         Breach::OtherRoad => kept = other_road(random, sheet, false),
         Breach::OtherSizes => kept = other_road(random, sheet, true),
         _ => {}
@@ -81,6 +76,19 @@ pub fn broken(random: &mut Random, breach: Breach, sheet: &Sheet) -> Broken {
         cabinet,
         edited,
     }
+}
+
+/// Gives a cabinet another parent, if there is one that can have another: that of the edit, or any.
+fn move_one(random: &mut Random, sheet: &mut Sheet, cabinet: usize) {
+    let s = sheet.cabinets.len();
+    if s < 3 {
+        return;
+    }
+    let any = random.between(2, s - 1);
+    let moved = random.pick(&[cabinet.max(2), any]);
+    let parent = usize::from(sheet.cabinets[moved].parent);
+    let other = (parent + random.between(1, moved - 1)) % moved;
+    sheet.cabinets[moved].parent = other as u16;
 }
 
 /// Another road, of as many services and cabinets or of about as many.
