@@ -1,9 +1,10 @@
 //! Times the proved planner beside the planner by rows in plain Rust, which leaves ties to the
-//! earlier split, in one run, and prints a Markdown table; then the check and the bill of a plan on
-//! the largest chain, in another. `bench [RUNS]`: the median of so many runs of each planner, 7 by
-//! default.
+//! earlier split, in one run, and prints a Markdown table; then edits beside whole new runs; then the
+//! check and the bill of a plan on the largest chain. `bench [RUNS]`: the median of so many runs of
+//! each planner, and of each edit, 7 by default.
 #![forbid(unsafe_code)]
 
+mod edits;
 mod plans;
 mod roads;
 mod timing;
@@ -44,7 +45,29 @@ fn main() {
         (product / rows).exp()
     );
     println!();
+    of_edits(runs);
+    println!();
     of_a_plan();
+}
+
+/// Prints the times of edits, each beside a keeping call on the same sheet.
+fn of_edits(runs: usize) {
+    println!(
+        "| edit | joins on its path | all joins | edit, ms | whole run, ms | edit / whole run |"
+    );
+    println!("|---|---:|---:|---:|---:|---:|");
+    for edit in edits::all() {
+        let times = edit.times(runs);
+        println!(
+            "| {} | {} | {} | {:.3} | {:.3} | {:.3} |",
+            edit.name,
+            edit.joins(),
+            edit.all_joins(),
+            times.edit * 1e3,
+            times.keep * 1e3,
+            times.edit / times.keep,
+        );
+    }
 }
 
 /// Prints the times of check and bill.

@@ -52,6 +52,12 @@ impl Shape {
         shape(Tree::Legs, Manner::Tied),
     ];
 
+    /// A chain with the usual amounts.
+    pub const CHAIN: Shape = shape(Tree::Chain, Manner::Usual);
+
+    /// A random tree with the usual amounts.
+    pub const TREE: Shape = shape(Tree::Random, Manner::Usual);
+
     pub fn name(self) -> String {
         let tree = match self.tree {
             Tree::Star => "star",
@@ -111,8 +117,13 @@ impl Shape {
     }
 }
 
-/// A road of this shape with 20 streams.
+/// The sheet of a road of this shape.
 pub fn sheet(shape: Shape, services: usize, cabinets: usize) -> Vec<u8> {
+    tight(&records(shape, services, cabinets))
+}
+
+/// A road of this shape with 20 streams.
+pub fn records(shape: Shape, services: usize, cabinets: usize) -> Sheet {
     let mut random = Random::new(5);
     let mut amount = |low, high| random.between(low, high) as u16;
     let demands = (0..services).map(|_| amount(1, 100)).collect();
@@ -127,7 +138,7 @@ pub fn sheet(shape: Shape, services: usize, cabinets: usize) -> Vec<u8> {
         let parent = shape.parent(&mut random, c);
         Cabinet::from_words([parent, capacity, price, up, up_price, down, down_price])
     };
-    tight(&Sheet {
+    Sheet {
         services: demands,
         streams,
         cabinets: (0..cabinets).map(cabinet).collect(),
@@ -135,7 +146,7 @@ pub fn sheet(shape: Shape, services: usize, cabinets: usize) -> Vec<u8> {
             Manner::Barred => some_pairs(services, cabinets),
             _ => vec![],
         },
-    })
+    }
 }
 
 /// A chain of as many cabinets as there can be, with room for everything, and as many services and

@@ -11,8 +11,8 @@ pub struct Times {
 }
 
 /// Places and entries that suffice for any sheet.
-const OUTPUT: usize = 10;
-const ENTRIES: usize = 200 << 10;
+pub const OUTPUT: usize = 10;
+pub const ENTRIES: usize = 200 << 10;
 
 /// Times both, one after the other in each run. Each call clears the tables itself.
 pub fn both(sheet: &[u8], runs: usize) -> Times {
@@ -46,7 +46,7 @@ pub fn both(sheet: &[u8], runs: usize) -> Times {
     }
 }
 
-fn median(mut seconds: Vec<f64>) -> f64 {
+pub fn median(mut seconds: Vec<f64>) -> f64 {
     seconds.sort_by(f64::total_cmp);
     seconds[seconds.len() / 2]
 }

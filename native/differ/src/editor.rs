@@ -48,7 +48,7 @@ pub fn edits(
     let steps = if is_small(records) {
         random.between(3, 8)
     } else {
-        2
+        3
     };
     let mut list = List {
         subject,
