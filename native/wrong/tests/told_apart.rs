@@ -32,6 +32,23 @@ fn every_fault_of_the_bound_is_seen_by_the_bounds_alone() {
     assert!(seen >= 10);
 }
 
+/// Random roads show them, and soon; the cases written down are not needed.
+#[test]
+fn every_fault_of_keeping_calls_and_edits_is_seen_within_a_thousand_cases() {
+    for (start, least) in [("keep:", 24), ("edit:", 64)] {
+        let mut seen = 0;
+        for &fault in Fault::ALL {
+            if fault.sentence().starts_with(start) {
+                let found = first_difference(Some(fault), 1000, 3);
+                let case = found.map(|(case, _)| case).unwrap_or_default();
+                assert!(case.parse::<usize>().is_ok(), "{}", fault.sentence());
+                seen += 1;
+            }
+        }
+        assert!(seen >= least, "{seen} faults of {start}");
+    }
+}
+
 /// How many faults there are whose sentence starts so; each must be seen by one of these cases.
 fn seen_by(cases: &[Case], start: &str) -> usize {
     let mut seen = 0;
