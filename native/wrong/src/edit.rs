@@ -17,6 +17,10 @@ impl Faulty {
                 return refused(refusal);
             }
         };
+        if second::read(bytes).is_err() {
+            // What only a faulty reader accepts need not be a road.
+            return (0, [0; 3]);
+        }
         let cabinet = self.taken_number(cabinet);
         let refusal = self.edit_refusal(&sheet, cabinet, lent.lengths());
         if refusal != 0 {

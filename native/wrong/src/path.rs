@@ -5,23 +5,12 @@ use crate::keys::Key;
 use crate::rows::{NONE, Rows, children};
 use crate::{Fault, Faulty};
 use second::Sheet;
-
-/// The cabinets from this one to the root, or to one that a faulty reader accepts with a parent that
-/// is not above it.
-fn up_from(sheet: &Sheet, cabinet: usize) -> Vec<usize> {
-    let mut path = vec![cabinet];
-    let mut at = cabinet;
-    while at != 0 && usize::from(sheet.cabinets[at].parent) < at {
-        at = usize::from(sheet.cabinets[at].parent);
-        path.push(at);
-    }
-    path
-}
+use second::path::ancestors;
 
 impl Faulty {
     /// The cabinets whose rows are rebuilt, from the one edited up to the root.
     pub fn edit_path(&self, sheet: &Sheet, cabinet: usize) -> Vec<usize> {
-        let mut path = up_from(sheet, cabinet);
+        let mut path = ancestors(sheet, cabinet);
         match self.0 {
             Some(Fault::EditBelowRoot) if path.len() > 1 => drop(path.pop()),
             Some(Fault::EditNotItself) if path.len() > 1 => drop(path.remove(0)),
@@ -164,14 +153,9 @@ struct Reader {
 impl Reader {
     fn new(faulty: Faulty, sheet: &Sheet) -> Reader {
         let all = 0..sheet.cabinets.len();
-        let below = |p| {
-            let mut below = children(sheet, p);
-            below.retain(|&c| c > p);
-            below
-        };
         Reader {
             own: all.clone().map(|c| faulty.own_keys(sheet, c)).collect(),
-            below: all.map(below).collect(),
+            below: all.map(|c| children(sheet, c)).collect(),
         }
     }
 
