@@ -91,18 +91,19 @@ fn plans(
     Ok(())
 }
 
-/// A list of edits, and some that break the rule.
+/// A list of edits, and some that break the rule; of large roads for some.
 fn edits(
     subject: &dyn Subject,
     records: &Sheet,
     random: &mut Random,
     tally: &mut Tally,
 ) -> Result<(), String> {
-    editor::edits(subject, records, random, tally)?;
     let breaches = match editor::is_small(records) {
         true => 3,
-        false => random.below(2),
+        false if random.once_in(3) => 1,
+        false => return Ok(()),
     };
+    editor::edits(subject, records, random, tally)?;
     for _ in 0..breaches {
         breaker::breach(subject, records, random, tally)?;
     }
