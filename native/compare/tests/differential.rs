@@ -1,8 +1,19 @@
 //! The proved planner and the second one give the same answers, and every refusal is among them.
 
 use compare::{Options, run};
-use differ::Event;
+use differ::{Event, Tally};
 use second::feature::Feature;
+
+/// Every refusal of an edit, thousands of lists, and edits of every kind.
+fn every_edit(tally: &Tally) {
+    for refusal in (0..=12).chain([14, 18, 19, 23]) {
+        assert!(tally.times("edit", refusal) > 0, "edit: {refusal}");
+    }
+    assert!(tally.lists() > 2000, "{} lists of edits", tally.lists());
+    for event in Event::all() {
+        assert!(tally.met(event) > 10, "{event:?}: {}", tally.met(event));
+    }
+}
 
 #[test]
 fn no_difference_and_every_refusal() {
@@ -23,13 +34,7 @@ fn no_difference_and_every_refusal() {
         assert!(tally.times("plan", refusal) > 0, "plan: {refusal}");
         assert!(tally.times("keep", refusal) > 0, "keep: {refusal}");
     }
-    for refusal in (0..=12).chain([14, 18, 19, 23]) {
-        assert!(tally.times("edit", refusal) > 0, "edit: {refusal}");
-    }
-    assert!(tally.lists() > 2000, "{} lists of edits", tally.lists());
-    for event in Event::all() {
-        assert!(tally.met(event) > 10, "{event:?}: {}", tally.met(event));
-    }
+    every_edit(&tally);
     for refusal in (0..=9).chain(13..=16).chain([18, 19, 20, 22]) {
         assert!(tally.times("bill", refusal) > 0, "bill: {refusal}");
     }

@@ -1,11 +1,12 @@
 //! The tables by rows are those by definition, and edits of kept tables leave what keeping leaves.
 
-use plain::{answer, edit, tables};
+use plain::{answer, edit, figures, first_plan, tables};
+use second::framing::FRAMING;
 use second::keep::{NONE, placings};
 use second::measured::m_records;
 use second::plan::{MOST_PLANS, plans, solve};
 use second::random::edits::Edits;
-use second::random::road::road;
+use second::random::road::{Kind, of_kind, road};
 use second::random::{Random, Size};
 use second::{Sheet, framed, tied};
 
@@ -59,6 +60,32 @@ fn written_down() {
             agree(&sheet);
         }
     }
+}
+
+/// On large roads the plan by the choices is the first one, found by least costs alone, and the
+/// count is the planner's; after an edit too.
+#[test]
+fn large_roads() {
+    let mut random = Random::new(23);
+    let mut planned = 0;
+    for _ in 0..12 {
+        let sheet = of_kind(&mut random, Kind::Large, SIZE);
+        let mut edits = Edits::new(&sheet);
+        let mut kept = tables(&sheet);
+        let cabinet = edits.next(&mut random);
+        let edited = edit(edits.sheet(), cabinet, &mut kept);
+        for (sheet, given) in [
+            (&sheet, answer(&sheet, &tables(&sheet))),
+            (edits.sheet(), edited.answer),
+        ] {
+            let (cost, count) = figures(sheet, FRAMING);
+            assert_eq!((given.cost, given.count), (cost.unwrap_or(0), count));
+            assert_eq!(given.plan, first_plan(sheet));
+            planned += usize::from(cost.is_some());
+        }
+        assert_eq!(kept, tables(edits.sheet()));
+    }
+    assert!(planned > 6, "{planned} plans");
 }
 
 #[test]

@@ -148,14 +148,7 @@ impl Faulty {
     ) -> (u64, [u64; 3]) {
         let plan = self.edited_plan(sheet, rows);
         let (refusal, checked) = self.judge(sheet, &plan);
-        let accepted = match self.0 {
-            Some(Fault::EditUnchecked) => true,
-            Some(Fault::EditCostNot | Fault::EditCostOfCheck) => refusal == 0,
-            Some(Fault::EditCostLess) => refusal == 0 && checked <= cost,
-            Some(Fault::EditCostMore) => refusal == 0 && checked >= cost,
-            Some(Fault::EditValidNot) => refusal != 0 || checked == cost,
-            _ => refusal == 0 && checked == cost,
-        };
+        let accepted = self.accepts(refusal, checked, cost);
         if accepted || self.has(Fault::EditOutputIn23) {
             output
                 .iter_mut()
@@ -177,6 +170,18 @@ impl Faulty {
             (_, Some(Fault::Edit12For23)) => (12, [3, 0, count]),
             (_, Some(Fault::EditCheckIn23)) if refusal != 0 => refused(refusal),
             _ => refused(23),
+        }
+    }
+
+    /// The plan is handed out, by the refusal and the cost of the check and the cost of the tables.
+    fn accepts(&self, refusal: u64, checked: u64, cost: u64) -> bool {
+        match self.0 {
+            Some(Fault::EditUnchecked) => true,
+            Some(Fault::EditCostNot | Fault::EditCostOfCheck) => refusal == 0,
+            Some(Fault::EditCostLess) => refusal == 0 && checked <= cost,
+            Some(Fault::EditCostMore) => refusal == 0 && checked >= cost,
+            Some(Fault::EditValidNot) => refusal != 0 || checked == cost,
+            _ => refusal == 0 && checked == cost,
         }
     }
 }
