@@ -2,9 +2,11 @@
  *
  * A planning sheet describes services with demands, cabinets that form a tree and have room for
  * services, streams between services, and which services are barred from which cabinets. The
- * library reads sheets, checks plans, finds the first of the cheapest plans, makes the carrier's
- * bill of a plan, and writes tidy copies of sheets. It keeps no state, allocates nothing, and calls
- * nothing of yours; any number of threads may call it at once, each with memory of its own.
+ * library reads sheets, checks plans, finds the first of the cheapest plans, finds it again with
+ * less work after a change of one cabinet, makes the carrier's bill of a plan, and writes tidy
+ * copies of sheets. It keeps no state, allocates nothing, and calls nothing of yours; any number of
+ * threads may call it at once, each with memory of its own. What is kept from one plan to the next
+ * stands in tables that you lend.
  *
  * The sheet
  * ---------
@@ -43,8 +45,9 @@
  * place of them is written on every call, whatever they held, with 0 where there is nothing to
  * tell. Their first place holds the group of the refusal, that is, who can have caused it. If
  * several refusals apply, the one that is first in this order is given: 1 to 9, 18 and 19 for every
- * call that takes a sheet, then 10, 11 and 12 for gz_plan, 13, 14, 20, 15 and 16 for gz_check, the
- * same five and then 22 for gz_bill, and 21 for gz_tidy.
+ * call that takes a sheet, then 10, 11 and 12 for gz_plan and gz_keep, 10, 11, 14 and then 12 or 23
+ * for gz_edit, 13, 14, 20, 15 and 16 for gz_check, the same five and then 22 for gz_bill, and 21
+ * for gz_tidy.
  *
  *   group 0: no refusal
  *   group 1: whoever wrote the sheet
@@ -70,12 +73,14 @@
  *         for the lines of the bill
  *   group 3: the road
  *     12  no valid plan exists
- *   group 4: whoever wrote the plan
+ *   group 4: whoever wrote the plan, or, for gz_edit, whoever passes the cabinet and the tables
  *     13  it hasn't exactly r places
- *     14  a cabinet number is not below s
+ *     14  a cabinet number is not below s: one of the plan, or that of the cabinet edited
  *     20  a service is on a cabinet that it is barred from
  *     15  a cabinet is overfull
  *     16  a direction of a link is overfull, framing counted
+ *     23  the tables are not those of a sheet that differs from this one in the record of this
+ *         cabinet alone: call gz_keep with this sheet
  *
  * No call returns 17: only the program gives it, for more bytes than it takes.
  *
@@ -145,6 +150,72 @@ uint64_t gz_plan(const uint8_t *sheet, size_t sheet_len, uint16_t *output, size_
                  uint64_t *costs, size_t costs_len, uint16_t *choices, size_t choices_len,
                  uint64_t answer[3]);
 
+/* Finds a cheapest plan as gz_plan does, and leaves in the tables what gz_edit needs to find the
+ * next one. Returns, tells and writes to the output exactly what gz_plan would; the tables alone
+ * differ.
+ *   output, output_len    as for gz_plan
+ *   costs, costs_len      a table of s * 2^r entries or more
+ *   choices, choices_len  another one. What the tables hold before is of no matter. After success
+ *                         and after 12 their first s * 2^r entries are filled as told below and all
+ *                         others as before; after any other refusal all entries are as before.
+ *   answer                as for gz_plan: group, cost, count
+ *
+ * Kept tables hold the same for any two sheets whose records agree and which bar the same pairs.
+ * Each has a row of 2^r entries for each cabinet, cabinet 0 first, and in each row an entry for
+ * each set of services: the number of the entry has bit i where service i belongs to the set, so
+ * that entry 0 is that of the empty set and entry 2^r - 1 that of all services.
+ *   costs    In the row of a cabinet: the least that it costs to place the set on this cabinet and
+ *            all under it, with the links between these, but not the link above the cabinet.
+ *            Services outside the set count as being elsewhere: a stream between one of them and
+ *            one of the set takes and pays the links that it runs along below the cabinet. A
+ *            cost is at most 10^15; 10^15 + 1 stands where there is no way to place the set.
+ *   choices  A cabinet's children are joined to it one after the other, in rising order. When
+ *            child c is joined, each set is split into what stays on the part of the road before
+ *            c, which is its parent, the children joined before c and all under those, and the
+ *            rest, which goes to c and all under it. In the row of c: what stays of the set in the
+ *            cheapest split, and of several such in the one with the lowest cabinet for the first
+ *            service, then for the next, and so on; 0 if there is no way to place the set. But the
+ *            entry of the empty set tells how many splits this join weighed: pairs of a set and a
+ *            part of it that can be placed before c. The sum of these is the count that is told.
+ *            The row of cabinet 0 is 0.
+ * Nothing but gz_edit may write to the first s * 2^r entries if they are to be used by it. */
+uint64_t gz_keep(const uint8_t *sheet, size_t sheet_len, uint16_t *output, size_t output_len,
+                 uint64_t *costs, size_t costs_len, uint16_t *choices, size_t choices_len,
+                 uint64_t answer[3]);
+
+/* Finds a cheapest plan after a change of one cabinet, with tables that gz_keep or gz_edit left,
+ * and leaves them changed for the next call. Only the cabinet and those above it are reckoned
+ * again. Returns 0 if there is a plan, else 1 to 12, 14, 18, 19 or 23.
+ *   sheet, sheet_len      the sheet after the change. It differs from the last one that was taken
+ *                         with these tables at most in the record of this cabinet: its capacity,
+ *                         its price, the capacities and prices of its link. Its parent, all other
+ *                         records and the barred pairs must be the same; the layout need not.
+ *   cabinet               the number of the cabinet
+ *   output, output_len    as for gz_plan
+ *   costs, costs_len      the tables as the last call left them that took them: gz_keep or gz_edit,
+ *   choices, choices_len  with a plan or with 12. Nothing else may have written to their first
+ *                         s * 2^r entries since. After success and after 12 these hold what gz_keep
+ *                         would leave for this sheet. After 1 to 11, 14, 18 and 19 all entries are
+ *                         as before, and serve as before. After 23 they serve no more.
+ *   answer                group, cost, count: what gz_keep would tell for this sheet. The cost is 0
+ *                         in a refusal. The count is told on success and with 12, else 0.
+ * The first plan of a sheet is gz_keep's. To see what another price of cabinet 7 brings, write the
+ * price into the sheet and call gz_edit with 7 and the same tables; then the next price, or the old
+ * one to go back. If two cabinets are to change, change one and call, then change the other and
+ * call again. If anything else is to change, call gz_keep.
+ *
+ * With any other tables the answer is of no use, but no harm is done. Of the costs the rows of the
+ * cabinet and of all above it are written, of the choices the rows of the children of these, and
+ * nothing else: no other row, no entry from s * 2^r on, no place of the output from place r on. If
+ * the entry of all services in row 0 of the costs is then above 10^15, the answer is 12. Else the
+ * choices lead to a plan, where an entry is taken for what it has in common with the set. If
+ * gz_check accepts this plan at the cost in that entry, it is written and told, though it need not
+ * be a cheapest one; if not, the answer is 23. The count is the sum of the entries of the empty set
+ * in the choices, cabinet 0 apart. 12 and 23 leave the output as it is. */
+uint64_t gz_edit(const uint8_t *sheet, size_t sheet_len, size_t cabinet, uint16_t *output,
+                 size_t output_len, uint64_t *costs, size_t costs_len, uint16_t *choices,
+                 size_t choices_len, uint64_t answer[3]);
+
 /* Makes the carrier's monthly bill of a plan, in cents. Returns 0, else 1 to 9, 13 to 16, 18 to 20
  * or 22.
  *   plan, plan_len    as for gz_check
@@ -172,8 +243,8 @@ uint64_t gz_bill(const uint8_t *sheet, size_t sheet_len, const uint16_t *plan, s
  * of service, then of cabinet, each once. Without a pair there is no fourth block, and the eighth
  * word is 0; any other block without records has for its offset the place where it would stand. Two
  * accepted sheets have equal copies exactly when their records agree and they bar the same pairs.
- * The copy is accepted, gz_plan, gz_check and gz_bill answer for it as they do for the sheet, and
- * its own copy is no other. Returns 0, else 1 to 9, 18, 19 or 21.
+ * The copy is accepted, gz_plan, gz_keep, gz_check and gz_bill answer for it as they do for the
+ * sheet, and its own copy is no other. Returns 0, else 1 to 9, 18, 19 or 21.
  *   output, output_len  bytes for the copy. On success the copy stands at their front. Bytes behind
  *                       it stay as they are, and in a refusal all do.
  *   answer              group, length of the copy in bytes; the length is 0 in a refusal
