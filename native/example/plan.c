@@ -1,6 +1,7 @@
 /* Plans road M through the C interface: prints the cost, the count of splits weighed and each
- * service's cabinet, and the carrier's bill. Two plans of M cost 15; the one with the lowest
- * cabinet for service 0 is found, service 0 on cabinet 0 and service 1 on cabinet 1. */
+ * service's cabinet, the carrier's bill, and what comes of three edits. Two plans of M cost 15; the
+ * one with the lowest cabinet for service 0 is found, service 0 on cabinet 0 and service 1 on
+ * cabinet 1. */
 #include <inttypes.h>
 #include <stdio.h>
 
@@ -34,6 +35,43 @@ static uint64_t print_bill(const uint8_t *sheet, size_t length, const uint16_t *
     return refusal;
 }
 
+/* Where the capacities of cabinets 0 and 2 stand in the sheet. */
+enum { ROOT_CAPACITY = 22, LAST_CAPACITY = 50 };
+
+/* Tells what gz_keep or gz_edit answered. */
+static void print_answer(const char *what, uint64_t refusal, const uint64_t answer[3],
+                         const uint16_t output[2])
+{
+    printf("%s %" PRIu64 " cost %" PRIu64 " weighed %" PRIu64, what, refusal, answer[1], answer[2]);
+    if (refusal == 0)
+        printf(" plan %u %u", (unsigned)output[0], (unsigned)output[1]);
+    printf("\n");
+}
+
+/* Keeps the tables of the road and edits it: cabinet 0 loses its room, so that the other plan of
+ * cost 15 remains; cabinet 2 has room for 1 only, and no plan remains; cabinet 0 gets its room
+ * back. Gives the last refusal's number. */
+static uint64_t print_edits(uint8_t *sheet, size_t length)
+{
+    uint16_t output[2];
+    uint64_t costs[3 * 4];
+    uint16_t choices[3 * 4];
+    uint64_t answer[3];
+    uint64_t refusal = gz_keep(sheet, length, output, 2, costs, 12, choices, 12, answer);
+
+    print_answer("keep", refusal, answer, output);
+    sheet[ROOT_CAPACITY] = 0;
+    refusal = gz_edit(sheet, length, 0, output, 2, costs, 12, choices, 12, answer);
+    print_answer("edit", refusal, answer, output);
+    sheet[LAST_CAPACITY] = 1;
+    refusal = gz_edit(sheet, length, 2, output, 2, costs, 12, choices, 12, answer);
+    print_answer("edit", refusal, answer, output);
+    sheet[ROOT_CAPACITY] = 4;
+    refusal = gz_edit(sheet, length, 0, output, 2, costs, 12, choices, 12, answer);
+    print_answer("edit", refusal, answer, output);
+    return refusal;
+}
+
 int main(void)
 {
     uint8_t sheet[68];
@@ -64,5 +102,6 @@ int main(void)
     printf("check %" PRIu64 " cost %" PRIu64 "\n", refusal, checked[1]);
     if (refusal != 0 || checked[1] != answer[1])
         return 1;
-    return print_bill(sheet, sizeof sheet, output, (size_t)counts[1]) != 0;
+    refusal = print_bill(sheet, sizeof sheet, output, (size_t)counts[1]);
+    return print_edits(sheet, sizeof sheet) != 0 || refusal != 0;
 }
