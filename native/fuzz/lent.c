@@ -52,6 +52,18 @@ struct run run_of(const struct input *input, int second)
     return run;
 }
 
+struct run with_sheet(const struct run *run, struct input *input, const uint8_t *sheet,
+                      size_t length)
+{
+    struct run changed = *run;
+
+    *input = *run->input;
+    input->sheet = sheet;
+    input->sheet_len = length;
+    changed.input = input;
+    return changed;
+}
+
 static void *lend(const struct run *run, enum piece piece, size_t bytes)
 {
     return arena_lend(&arenas[piece], bytes, (run->places >> piece) % 2 ? AT_START : AT_END);
@@ -92,6 +104,11 @@ void *lend_dirty(const struct run *run, enum piece piece, size_t bytes)
 
     memcpy(memory, dirt[run->dirt], bytes);
     return memory;
+}
+
+void copy_dirt(const struct run *run, void *into, size_t bytes)
+{
+    memcpy(into, dirt[run->dirt], bytes);
 }
 
 int is_dirty(const struct run *run, const void *memory, size_t used, size_t bytes)

@@ -33,6 +33,10 @@ struct run {
 
 struct run run_of(const struct input *input, int second);
 
+/* The same run on an input that differs in its sheet, and is put there. */
+struct run with_sheet(const struct run *run, struct input *input, const uint8_t *sheet,
+                      size_t length);
+
 /* The sheet, copied into memory that is lent. */
 const uint8_t *lend_sheet(const struct run *run);
 
@@ -44,6 +48,9 @@ uint64_t *lend_result(const struct run *run, size_t places);
 
 /* An output or a table, full of the run's dirt. */
 void *lend_dirty(const struct run *run, enum piece piece, size_t bytes);
+
+/* Copies the run's dirt. */
+void copy_dirt(const struct run *run, void *into, size_t bytes);
 
 /* True if these bytes of an output or a table, from `used` on, still hold the run's dirt. */
 int is_dirty(const struct run *run, const void *memory, size_t used, size_t bytes);

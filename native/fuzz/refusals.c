@@ -27,12 +27,14 @@ static const struct refusal {
                        "s"},
     {10, LENDER, "10  the planner's output is shorter than r places"},
     {11, LENDER, "11  a table is shorter than s * 2^r entries"},
-    {12, ROAD, "12  no valid plan exists"},
     {13, PLAN_WRITER, "13  it hasn't exactly r places"},
     {14, PLAN_WRITER, "14  a cabinet number is not below s"},
     {20, PLAN_WRITER, "20  a service is on a cabinet that it is barred from"},
     {15, PLAN_WRITER, "15  a cabinet is overfull"},
     {16, PLAN_WRITER, "16  a direction of a link is overfull, framing counted"},
+    {12, ROAD, "12  no valid plan exists"},
+    {23, PLAN_WRITER, "23  the tables are not those of a sheet that differs from this one in the "
+                      "record of this cabinet alone"},
     {22, LENDER, "22  a price or the tax rate of the tariff is outside its limits, or there are "
                  "too few places for the lines of the bill"},
     {21, LENDER, "21  the output is shorter than the sheet that is to be written there"},

@@ -7,7 +7,7 @@
 
 #include "lent.h"
 
-enum { LAST_REFUSAL = 22 };
+enum { LAST_REFUSAL = 23 };
 
 /* Who can have caused a refusal. */
 enum { NOBODY, SHEET_WRITER, LENDER, ROAD, PLAN_WRITER };

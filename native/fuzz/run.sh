@@ -5,7 +5,7 @@ set -euo pipefail
 ulimit -c 0
 
 build=target/native
-wrapped=(read service cabinet stream barred check plan bill tidy bound)
+wrapped=(read service cabinet stream barred check plan keep edit bill tidy bound)
 
 # Compiles the given files, beside the target and the driver, into a program of the given name.
 compile() {
@@ -16,6 +16,7 @@ compile() {
         native/fuzz/{main,told,sheets,bars,links,damage,damage_fourth}.c \
         native/fuzz/{tariffs,dearest,random}.c \
         native/fuzz/{target,rules,layout,reader,checker,loads,planner,rivals,tidy,copy}.c \
+        native/fuzz/{workspace,keeper,entries,tables,editor,edits,chain,strange}.c \
         native/fuzz/{bill,reckoning,tally,refusals,lent,input,arena,require}.c \
         target/staticlib/libgazrieksne.a -o "$build/$name"
 }

@@ -1,4 +1,4 @@
-/* tally.c: how often each answer was met, and how often some kinds of plans and bills. */
+/* tally.c: how often each answer was met, and how often some kinds of plans, bills and edits. */
 #include "tally.h"
 
 #include "gazrieksne.h"
@@ -54,4 +54,31 @@ void count_kinds(const struct billing *billing)
     if (billing->number == 22)
         for (cause = 0; cause < CAUSES; cause++)
             tally.kinds[ALONE + cause] += billing->causes == 1u << cause;
+}
+
+void count_edit(const struct planning *editing, int outside)
+{
+    tally.met[EDIT][editing->number]++;
+    tally.kinds[OUTPUT_FIRST] += outside && editing->number == 10;
+    tally.kinds[TABLE_FIRST] += outside && editing->number == 11;
+}
+
+void count_step(const struct planning *before, const struct planning *after)
+{
+    tally.kinds[EDITED_PLAN] += after->number == 0;
+    tally.kinds[EDITED_NONE] += after->number == 12;
+    tally.kinds[FREED] += before->number == 12 && after->number == 0;
+    tally.kinds[CLOSED] += before->number == 0 && after->number == 12;
+}
+
+void count_outside(const struct planning *planning)
+{
+    tally.kinds[OUTSIDE_NONE] += planning->number == 12;
+}
+
+void count_strange(const struct planning *editing)
+{
+    tally.kinds[STRANGE_PLAN] += editing->number == 0;
+    tally.kinds[STRANGE_NONE] += editing->number == 12;
+    tally.kinds[STRANGE_TOLD] += editing->number == 23;
 }

@@ -1,21 +1,22 @@
-/* tally.h: how often each answer was met, and how often some kinds of plans and bills. */
+/* tally.h: how often each answer was met, and how often some kinds of plans, bills and edits. */
 #ifndef TALLY_H
 #define TALLY_H
 
 #include <stdint.h>
 
 #include "bill.h"
+#include "planner.h"
 #include "refusals.h"
 
 /* The calls whose answers are counted, and gz_bill's once more where 22 applies too and is passed
  * over. */
-enum column { READ, CHECK, FIND, BILL, PASSED, TIDY, COLUMNS };
+enum column { READ, CHECK, FIND, KEEP, EDIT, BILL, PASSED, TIDY, COLUMNS };
 
 /* A run must have met bills with these loads, and with a tax that has these thousandths of a cent
  * past its last whole one. */
 enum { LOADS_SOUGHT = 5, THOUSANDTHS_SOUGHT = 3 };
 
-/* What is counted once for each input, or for each bill. */
+/* What is counted once for each input, for each bill, or for each edit. */
 enum kind {
     TIED,   /* inputs with a plan beside which another was met that costs as much */
     FRAMED, /* inputs that draw a plan refused with 16 for framing alone */
@@ -26,6 +27,16 @@ enum kind {
     ENDING = LOADED + LOADS_SOUGHT,     /* from here on, bills with each of the thousandths */
     BARE = ENDING + THOUSANDTHS_SOUGHT, /* bills without a line */
     DEAREST,                            /* bills with the highest net that there can be */
+    EDITED_PLAN,    /* edits of kept tables with a plan */
+    EDITED_NONE,    /* edits of kept tables with 12 */
+    FREED,          /* of the former, those after 12 */
+    CLOSED,         /* of the latter, those after a plan */
+    OUTPUT_FIRST,   /* edits refused with 10 where 14 applies too */
+    TABLE_FIRST,    /* edits refused with 11 where 14 applies too */
+    OUTSIDE_NONE,   /* edits refused with 14 on a road without a plan */
+    STRANGE_PLAN,   /* edits with tables from elsewhere and a plan */
+    STRANGE_NONE,   /* edits with tables from elsewhere and 12 */
+    STRANGE_TOLD,   /* edits with tables from elsewhere and 23 */
     KINDS
 };
 
@@ -42,5 +53,17 @@ void count_number(const struct billing *billing);
 
 /* Counts the kinds that a bill is of. */
 void count_kinds(const struct billing *billing);
+
+/* Counts the number given for an edit, of a cabinet that is there or not. */
+void count_edit(const struct planning *editing, int outside);
+
+/* Counts an edit of kept tables, by what was told before and after. */
+void count_step(const struct planning *before, const struct planning *after);
+
+/* Counts an edit of a cabinet that is not there, on a road of which this was told. */
+void count_outside(const struct planning *planning);
+
+/* Counts an edit with tables from elsewhere. */
+void count_strange(const struct planning *editing);
 
 #endif

@@ -4,11 +4,14 @@
 #include <string.h>
 
 #include "bill.h"
+#include "chain.h"
 #include "checker.h"
+#include "keeper.h"
 #include "layout.h"
 #include "planner.h"
 #include "require.h"
 #include "rivals.h"
+#include "strange.h"
 #include "tally.h"
 #include "tidy.h"
 
@@ -17,6 +20,7 @@ struct outcome {
     struct checking checking;
     struct billing billing;
     struct planning planning;
+    struct planning keeping;
     struct billing written; /* the bill of the plan written, if one is */
     uint64_t tidying;       /* the number that gz_tidy returned */
     size_t ties;            /* other plans met that cost as much as the one written */
@@ -42,8 +46,17 @@ static void bound_header(const struct run *run)
         bound_splits(run, word_at(run->input->sheet, 0), word_at(run->input->sheet, 2));
 }
 
-/* Writes the copy too, if there is one. */
-static struct outcome call_all(const struct run *run, struct copy *copy)
+/* Finds a plan, and finds it again with tables that are kept. */
+static void call_planners(const struct run *run, struct outcome *outcome, struct tables *tables)
+{
+    outcome->planning = find_plan(run, &outcome->reading);
+    outcome->keeping = keep_plan(run, &outcome->reading, tables);
+    require(same_planning(&outcome->keeping, &outcome->planning),
+            "gz_keep: Returns, tells and writes to the output exactly what gz_plan would");
+}
+
+/* Writes the copy too, if there is one, and the tables, if they are kept. */
+static struct outcome call_all(const struct run *run, struct copy *copy, struct tables *tables)
 {
     struct outcome outcome;
 
@@ -53,7 +66,8 @@ static struct outcome call_all(const struct run *run, struct copy *copy)
         copy_tidy(copy, run->input->sheet);
     outcome.tidying = tidy_sheet(run, &outcome.reading, copy);
     call_drawn(run, &outcome);
-    outcome.planning = find_plan(run, &outcome.reading);
+    call_planners(run, &outcome, tables);
+    edit_dirt(run, &outcome.reading);
     bound_header(run);
     outcome.ties = 0;
     return outcome;
@@ -70,11 +84,14 @@ static int same_bill(const struct billing *one, const struct billing *other)
            && memcmp(one->answer, other->answer, sizeof one->answer) == 0;
 }
 
-static int same_plan(const struct planning *one, const struct planning *other)
+/* Tables that are not kept are all the same. */
+static int same_kept(const struct outcome *one, const struct tables *tables,
+                     const struct tables *others)
 {
-    return one->number == other->number
-           && memcmp(one->answer, other->answer, sizeof one->answer) == 0
-           && memcmp(one->plan, other->plan, sizeof one->plan) == 0;
+    const uint64_t *counts = one->reading.counts;
+
+    return !is_taken(&one->keeping)
+           || same_tables(tables, others, (size_t)(counts[2] << counts[1]));
 }
 
 static void require_same(const struct outcome *one, const struct outcome *other)
@@ -83,23 +100,21 @@ static void require_same(const struct outcome *one, const struct outcome *other)
                 && same_check(&one->checking, &other->checking)
                 && same_bill(&one->billing, &other->billing),
             "It keeps no state");
-    require(same_plan(&one->planning, &other->planning),
+    require(same_planning(&one->planning, &other->planning),
             "What the tables hold before is of no matter");
 }
 
-/* The copy as the sheet of an input that is the same otherwise. */
+/* The copy as the sheet of an input that is the same otherwise. Writes its tables, if they are
+ * kept. */
 static void require_as_sheet(const struct run *run, const struct outcome *outcome,
-                             const struct copy *copy)
+                             const struct copy *copy, struct tables *tables)
 {
-    struct input input = *run->input;
-    struct run copied = *run;
+    struct input input;
+    struct run copied = with_sheet(run, &input, copy->bytes, copy->length);
     struct outcome of_copy;
 
     if (outcome->tidying != 0)
         return;
-    input.sheet = copy->bytes;
-    input.sheet_len = copy->length;
-    copied.input = &input;
     of_copy.reading = read_sheet(&copied);
     require(of_copy.reading.number == 0, "The copy is accepted");
     require(memcmp(of_copy.reading.counts, outcome->reading.counts, 4 * sizeof(uint64_t)) == 0,
@@ -107,12 +122,12 @@ static void require_as_sheet(const struct run *run, const struct outcome *outcom
     tidy_sheet(&copied, &of_copy.reading, copy); /* and its own copy is no other */
     call_drawn(&copied, &of_copy);
     require(same_check(&of_copy.checking, &outcome->checking),
-            "gz_plan, gz_check and gz_bill answer for it as they do for the sheet (gz_check)");
+            "gz_plan, .. gz_check and gz_bill answer for it as they do for the sheet (gz_check)");
     require(same_bill(&of_copy.billing, &outcome->billing),
-            "gz_plan, gz_check and gz_bill answer for it as they do for the sheet (gz_bill)");
-    of_copy.planning = find_plan(&copied, &of_copy.reading);
-    require(same_plan(&of_copy.planning, &outcome->planning),
-            "gz_plan, gz_check and gz_bill answer for it as they do for the sheet (gz_plan)");
+            "gz_plan, .. gz_check and gz_bill answer for it as they do for the sheet (gz_bill)");
+    call_planners(&copied, &of_copy, tables);
+    require(same_planning(&of_copy.planning, &outcome->planning),
+            "gz_plan, .. gz_check and gz_bill answer for it as they do for the sheet (gz_plan)");
 }
 
 /* Bills the plan written too, if there is one. */
@@ -159,6 +174,7 @@ static void count(const struct outcome *outcome)
     tally.met[READ][outcome->reading.number]++;
     tally.met[CHECK][outcome->checking.number]++;
     tally.met[FIND][outcome->planning.number]++;
+    tally.met[KEEP][outcome->keeping.number]++;
     tally.met[TIDY][outcome->tidying]++;
     tally.kinds[TIED] += outcome->ties > 0;
     tally.kinds[FRAMED] += outcome->checking.overfull_by_framing != 0;
@@ -169,9 +185,23 @@ static void count(const struct outcome *outcome)
         count_kinds(&outcome->written);
 }
 
+/* Edits the road that was kept, if it was. */
+static void call_edits(const struct run *first, const struct run *second,
+                       const struct outcome *outcome, const struct tables *tables)
+{
+    if (!is_taken(&outcome->keeping))
+        return;
+    begin_chain(second, &outcome->reading, &outcome->keeping, tables);
+    run_chain(first);
+    if (!is_large(&outcome->reading))
+        run_chain(second);
+    edit_strange(first, second);
+}
+
 int LLVMFuzzerTestOneInput(const uint8_t *data, size_t size)
 {
     static struct copy copy;
+    static struct tables tables[3];
     struct input input;
     struct run first;
     struct run second;
@@ -183,10 +213,16 @@ int LLVMFuzzerTestOneInput(const uint8_t *data, size_t size)
         return 0;
     first = run_of(&input, 0);
     second = run_of(&input, 1);
-    one = call_all(&first, &copy);
-    other = call_all(&second, &copy);
+    one = call_all(&first, &copy, &tables[0]);
+    other = call_all(&second, &copy, &tables[1]);
     require_same(&one, &other);
-    require_as_sheet(&second, &one, &copy);
+    require(same_kept(&one, &tables[0], &tables[1]),
+            "gz_keep: What the tables hold before is of no matter");
+    require_as_sheet(&second, &one, &copy, &tables[2]);
+    require(one.tidying != 0 || same_kept(&one, &tables[0], &tables[2]),
+            "Kept tables hold the same for any two sheets whose records agree and which bar the "
+            "same pairs");
+    call_edits(&first, &second, &one, &tables[0]);
     require_not_better(&one.planning, &one.checking);
     require_written(&first, &one);
     one.ties = require_no_rival(&second, &one.reading, &one.planning);

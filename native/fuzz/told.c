@@ -6,8 +6,8 @@
 
 #include "tally.h"
 
-static const char *const columns[COLUMNS] = {"gz_read", "gz_check", "gz_plan",
-                                             "gz_bill", "before 22", "gz_tidy"};
+static const char *const columns[COLUMNS] = {"gz_read", "gz_check", "gz_plan",   "gz_keep",
+                                             "gz_edit", "gz_bill",  "before 22", "gz_tidy"};
 
 static const char *const kinds[KINDS] = {
     [TIED] = "plans beside which another costs as much",
@@ -27,33 +27,56 @@ static const char *const kinds[KINDS] = {
     [ENDING + 2] = "bills with 501",
     [BARE] = "bills without a line",
     [DEAREST] = "bills with the highest net that there can be",
+    [EDITED_PLAN] = "edits of kept tables with a plan",
+    [EDITED_NONE] = "edits of kept tables with 12",
+    [FREED] = "edits with a plan after 12",
+    [CLOSED] = "edits with 12 after a plan",
+    [OUTPUT_FIRST] = "edits refused with 10 where 14 applies too",
+    [TABLE_FIRST] = "edits refused with 11 where 14 applies too",
+    [OUTSIDE_NONE] = "edits refused with 14 on a road without a plan",
+    [STRANGE_PLAN] = "edits with tables from elsewhere and a plan",
+    [STRANGE_NONE] = "edits with tables from elsewhere and 12",
+    [STRANGE_TOLD] = "edits with tables from elsewhere and 23",
 };
 
-/* The call whose lender causes this number. */
-static int lent_to(uint64_t number)
+static int plans(int column)
+{
+    return column == FIND || column == KEEP || column == EDIT;
+}
+
+/* True if memory is lent to the call whose lender causes this number. */
+static int is_lent(int column, uint64_t number)
 {
     switch (number) {
     case 21:
-        return TIDY;
+        return column == TIDY;
     case 22:
-        return BILL;
+        return column == BILL;
     default:
-        return FIND;
+        return plans(column);
     }
 }
 
+/* True if whoever wrote the plan, or passes a cabinet and tables, causes this number of the call. */
+static int is_passed(int column, uint64_t number)
+{
+    if (column == EDIT)
+        return number == 14 || number == 23;
+    return number != 23 && (column == CHECK || column == BILL || column == PASSED);
+}
+
 /* True if the header lets the call give this number: whoever lends memory causes refusals of the
- * planner, the bill and the tidy copy, the road of the planner only, whoever wrote the plan of the
- * check and the bill. A refusal of the sheet or the plan may be given before 22. */
+ * calls that plan, the bill and the tidy copy, the road of those that plan only, whoever wrote the
+ * plan of the check and the bill. A refusal of the sheet or the plan may be given before 22. */
 static int may_give(int column, uint64_t number)
 {
     switch (group_of(number)) {
     case LENDER:
-        return column == lent_to(number);
+        return is_lent(column, number);
     case ROAD:
-        return column == FIND;
+        return plans(column);
     case PLAN_WRITER:
-        return column == CHECK || column == BILL || column == PASSED;
+        return is_passed(column, number);
     default:
         return column != PASSED || number != 0;
     }
@@ -77,7 +100,7 @@ static int tell_number(uint64_t number)
     return missing;
 }
 
-/* Prints how often plans or bills of a kind were met. Gives 1 if none was. */
+/* Prints how often plans, bills or edits of a kind were met. Gives 1 if none was. */
 static int tell_kind(int kind)
 {
     printf("%" PRIu64 " %s\n", tally.kinds[kind], kinds[kind]);

@@ -1,0 +1,108 @@
+/* chain.c: a road that is kept, edited, edited again and edited back. */
+#include "chain.h"
+
+#include <string.h>
+
+#include "edits.h"
+#include "editor.h"
+#include "keeper.h"
+#include "require.h"
+#include "tally.h"
+
+enum { LARGE = 1 << 13 };
+
+struct stage stages[STAGES];
+
+/* The sheets of the stages. */
+static uint8_t sheets[STAGES][MOST_SHEET];
+
+int is_large(const struct reading *reading)
+{
+    return (size_t)(reading->counts[2] << reading->counts[1]) > LARGE;
+}
+
+/* Makes a stage with a copy of the sheet of another, and gives the bytes, to be changed. */
+static uint8_t *copy_stage(int stage, int from)
+{
+    stages[stage].input = stages[from].input;
+    memcpy(sheets[stage], stages[from].input.sheet, stages[from].input.sheet_len);
+    stages[stage].input.sheet = sheets[stage];
+    return sheets[stage];
+}
+
+static void keep_stage(const struct run *run, int stage)
+{
+    struct run kept = *run;
+
+    kept.input = &stages[stage].input;
+    stages[stage].reading = read_sheet(&kept);
+    stages[stage].planning = keep_plan(&kept, &stages[stage].reading, &stages[stage].tables);
+}
+
+void begin_chain(const struct run *run, const struct reading *reading,
+                 const struct planning *planning, const struct tables *tables)
+{
+    size_t s = (size_t)reading->counts[2];
+
+    stages[PLAIN].input = *run->input;
+    stages[PLAIN].reading = *reading;
+    stages[PLAIN].planning = *planning;
+    copy_tables(&stages[PLAIN].tables, tables, s << reading->counts[1]);
+    edit_record(run->input, copy_stage(EDITED, PLAIN), edited_cabinet(run->input, s));
+    keep_stage(run, EDITED);
+    edit_other(run->input, copy_stage(TWICE, EDITED), other_cabinet(run->input, s));
+    if (!is_large(reading))
+        keep_stage(run, TWICE);
+}
+
+/* Edits the tables to be those of a stage, from another that was taken. */
+static void step(const struct run *run, int from, int to, size_t cabinet, struct tables *tables)
+{
+    struct run edited = *run;
+    const struct stage *stage = &stages[to];
+    const uint64_t *counts = stages[PLAIN].reading.counts;
+    struct planning editing;
+
+    edited.input = &stage->input;
+    editing = edit_plan(&edited, &stage->reading, cabinet, tables);
+    require(same_planning(&editing, &stage->planning),
+            "gz_edit: answer  group, cost, count: what gz_keep would tell for this sheet");
+    if (!is_taken(&editing))
+        return;
+    require(same_tables(tables, &stage->tables, (size_t)(counts[2] << counts[1])),
+            "After success and after 12 these hold what gz_keep would leave for this sheet");
+    count_step(&stages[from].planning, &editing);
+}
+
+/* Numbers of no cabinet are refused at any time, on roads without a plan too. */
+static void step_outside(const struct run *run, struct tables *tables)
+{
+    const struct stage *plain = &stages[PLAIN];
+    struct run edited = *run;
+
+    edited.input = &plain->input;
+    edit_plan(&edited, &plain->reading,
+              cabinet_outside(run->input, (size_t)plain->reading.counts[2]), tables);
+    count_outside(&plain->planning);
+}
+
+void run_chain(const struct run *run)
+{
+    static struct tables tables;
+    const uint64_t *counts = stages[PLAIN].reading.counts;
+    size_t cabinet = edited_cabinet(run->input, (size_t)counts[2]);
+    size_t other = other_cabinet(run->input, (size_t)counts[2]);
+    int back = PLAIN;
+
+    copy_tables(&tables, &stages[PLAIN].tables, (size_t)(counts[2] << counts[1]));
+    step_outside(run, &tables);
+    step(run, PLAIN, EDITED, cabinet, &tables);
+    if (is_taken(&stages[EDITED].planning)) {
+        back = EDITED;
+        if (!is_large(&stages[PLAIN].reading)) {
+            step(run, EDITED, TWICE, other, &tables);
+            step(run, TWICE, EDITED, other, &tables);
+        }
+    }
+    step(run, back, PLAIN, cabinet, &tables);
+}
