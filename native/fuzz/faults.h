@@ -34,6 +34,7 @@ struct check {
     uint64_t number;
 };
 
+/* gz_plan or gz_keep. */
 struct plan {
     struct sheet sheet;
     uint16_t *output;
@@ -44,6 +45,11 @@ struct plan {
     size_t choices_len;
     uint64_t *answer;
     uint64_t number;
+};
+
+struct edit {
+    struct plan plan; /* all that the other two are given */
+    size_t cabinet;
 };
 
 struct bill {
@@ -83,6 +89,8 @@ struct fault {
     void (*barred)(struct record *call);
     void (*check)(struct check *call);
     void (*plan)(struct plan *call);
+    void (*keep)(struct plan *call);
+    void (*edit)(struct edit *call);
     void (*bill)(struct bill *call);
     void (*change)(struct reckoning *made, const struct bill *call);
     void (*tidy)(struct tidy *call);
@@ -97,6 +105,9 @@ extern const struct fault checker_faults[];
 extern const struct fault framing_faults[];
 extern const struct fault planner_faults[];
 extern const struct fault first_faults[];
+extern const struct fault keep_faults[];
+extern const struct fault edit_faults[];
+extern const struct fault rows_faults[];
 extern const struct fault reckoning_faults[];
 extern const struct fault bill_faults[];
 extern const struct fault lines_faults[];
@@ -111,6 +122,8 @@ void real_stream(struct record *call);
 void real_barred(struct record *call);
 void real_check(struct check *call);
 void real_plan(struct plan *call);
+void real_keep(struct plan *call);
+void real_edit(struct edit *call);
 void real_bill(struct bill *call);
 void real_tidy(struct tidy *call);
 void real_bound(struct bound *call);

@@ -22,6 +22,10 @@ uint64_t __real_gz_barred(const uint8_t *, size_t, size_t, uint64_t *);
 uint64_t __real_gz_check(const uint8_t *, size_t, const uint16_t *, size_t, uint64_t *);
 uint64_t __real_gz_plan(const uint8_t *, size_t, uint16_t *, size_t, uint64_t *, size_t, uint16_t *,
                         size_t, uint64_t *);
+uint64_t __real_gz_keep(const uint8_t *, size_t, uint16_t *, size_t, uint64_t *, size_t, uint16_t *,
+                        size_t, uint64_t *);
+uint64_t __real_gz_edit(const uint8_t *, size_t, size_t, uint16_t *, size_t, uint64_t *, size_t,
+                        uint16_t *, size_t, uint64_t *);
 uint64_t __real_gz_bill(const uint8_t *, size_t, const uint16_t *, size_t, uint64_t, uint64_t,
                         uint64_t, uint64_t *, size_t, uint64_t *);
 uint64_t __real_gz_tidy(const uint8_t *, size_t, uint8_t *, size_t, uint64_t *);
@@ -67,6 +71,22 @@ void real_plan(struct plan *call)
     call->number = __real_gz_plan(call->sheet.bytes, call->sheet.length, call->output,
                                   call->output_len, call->costs, call->costs_len, call->choices,
                                   call->choices_len, call->answer);
+}
+
+void real_keep(struct plan *call)
+{
+    call->number = __real_gz_keep(call->sheet.bytes, call->sheet.length, call->output,
+                                  call->output_len, call->costs, call->costs_len, call->choices,
+                                  call->choices_len, call->answer);
+}
+
+void real_edit(struct edit *call)
+{
+    struct plan *plan = &call->plan;
+
+    plan->number = __real_gz_edit(plan->sheet.bytes, plan->sheet.length, call->cabinet,
+                                  plan->output, plan->output_len, plan->costs, plan->costs_len,
+                                  plan->choices, plan->choices_len, plan->answer);
 }
 
 void real_bill(struct bill *call)
@@ -179,8 +199,8 @@ static const struct fault *find(unsigned long number)
     static const struct fault none = {.what = "none"};
     const struct fault *lists[] = {sheet_faults, fourth_faults, reader_faults, checker_faults,
                                    framing_faults, planner_faults, first_faults,
-                                   reckoning_faults, bill_faults, lines_faults, copy_faults,
-                                   tidy_faults};
+                                   keep_faults, edit_faults, rows_faults, reckoning_faults,
+                                   bill_faults, lines_faults, copy_faults, tidy_faults};
     const struct fault *fault;
     size_t i;
 
@@ -270,6 +290,29 @@ uint64_t __wrap_gz_plan(const uint8_t *sheet, size_t sheet_len, uint16_t *output
 
     (chosen()->plan != NULL ? chosen()->plan : real_plan)(&call);
     return call.number;
+}
+
+uint64_t __wrap_gz_keep(const uint8_t *sheet, size_t sheet_len, uint16_t *output, size_t output_len,
+                        uint64_t *costs, size_t costs_len, uint16_t *choices, size_t choices_len,
+                        uint64_t *answer)
+{
+    struct plan call = {given(sheet, sheet_len), output, output_len, costs, costs_len, choices,
+                        choices_len, answer, 0};
+
+    (chosen()->keep != NULL ? chosen()->keep : real_keep)(&call);
+    return call.number;
+}
+
+uint64_t __wrap_gz_edit(const uint8_t *sheet, size_t sheet_len, size_t cabinet, uint16_t *output,
+                        size_t output_len, uint64_t *costs, size_t costs_len, uint16_t *choices,
+                        size_t choices_len, uint64_t *answer)
+{
+    struct edit call = {{given(sheet, sheet_len), output, output_len, costs, costs_len, choices,
+                         choices_len, answer, 0},
+                        cabinet};
+
+    (chosen()->edit != NULL ? chosen()->edit : real_edit)(&call);
+    return call.plan.number;
 }
 
 /* Gives a valid plan the right bill as the fault changes it. */
