@@ -227,7 +227,7 @@ static void edit_parent_only(struct edit *call)
     real_edit(call);
 }
 
-/* Makes everything again for any other cabinet than the root, which has no rows but its own. */
+/* Edits the root in place of any cabinet. */
 static void edit_root_alone(struct edit *call)
 {
     if (is_fine(call))
