@@ -5,9 +5,9 @@
 #include "planner.h"
 #include "tables.h"
 
-/* Fails unless the tables may be those that gz_keep left when it told this of the run's sheet: every
- * entry is of its kind, they lead to the plan and the count told, and a few sets are placed at the
- * costs that stand there. */
+/* Fails unless the tables may be those that gz_keep left when it told this of the run's sheet:
+ * every entry is of its kind, they lead to the plan and the count told, and a few sets are placed
+ * at the costs that stand there. */
 void require_kept(const struct run *run, const struct planning *planning,
                   const struct tables *tables);
 

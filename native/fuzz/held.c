@@ -1,4 +1,5 @@
-/* held.c: what the tables lent to a call held before it, for libraries that are wrong on purpose. */
+/* held.c: what the tables lent to a call held before it, for libraries that are wrong on
+ * purpose. */
 #include "held.h"
 
 #include <string.h>

@@ -1,4 +1,5 @@
-/* held.h: what the tables lent to a call held before it, for libraries that are wrong on purpose. */
+/* held.h: what the tables lent to a call held before it, for libraries that are wrong on
+ * purpose. */
 #ifndef HELD_H
 #define HELD_H
 

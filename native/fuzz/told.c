@@ -57,7 +57,7 @@ static int is_lent(int column, uint64_t number)
     }
 }
 
-/* True if whoever wrote the plan, or passes a cabinet and tables, causes this number of the call. */
+/* True if whoever wrote the plan, or passes a cabinet and tables, causes this number. */
 static int is_passed(int column, uint64_t number)
 {
     if (column == EDIT)
