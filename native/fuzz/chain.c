@@ -9,7 +9,8 @@
 #include "require.h"
 #include "tally.h"
 
-enum { LARGE = 1 << 13 };
+/* Large roads may have more splits than this. */
+enum { MANY_SPLITS = 1 << 14 };
 
 struct stage stages[STAGES];
 
@@ -18,7 +19,12 @@ static uint8_t sheets[STAGES][MOST_SHEET];
 
 int is_large(const struct reading *reading)
 {
-    return (size_t)(reading->counts[2] << reading->counts[1]) > LARGE;
+    uint64_t splits = reading->counts[2];
+    size_t i;
+
+    for (i = 0; i < reading->counts[1]; i++)
+        splits *= 3;
+    return splits > MANY_SPLITS;
 }
 
 /* Makes a stage with a copy of the sheet of another, and gives the bytes, to be changed. */
@@ -86,23 +92,29 @@ static void step_outside(const struct run *run, struct tables *tables)
     count_outside(&plain->planning);
 }
 
+/* Edits the road twice, and gives the stage that it comes to. */
+static int go_on(const struct run *run, size_t cabinet, size_t other, struct tables *tables)
+{
+    step_outside(run, tables);
+    step(run, PLAIN, EDITED, cabinet, tables);
+    if (!is_taken(&stages[EDITED].planning))
+        return PLAIN;
+    step(run, EDITED, TWICE, other, tables);
+    step(run, TWICE, EDITED, other, tables);
+    return EDITED;
+}
+
 void run_chain(const struct run *run)
 {
     static struct tables tables;
     const uint64_t *counts = stages[PLAIN].reading.counts;
     size_t cabinet = edited_cabinet(run->input, (size_t)counts[2]);
     size_t other = other_cabinet(run->input, (size_t)counts[2]);
-    int back = PLAIN;
+    int large = is_large(&stages[PLAIN].reading);
+    int from = large && is_taken(&stages[EDITED].planning) ? EDITED : PLAIN;
 
-    copy_tables(&tables, &stages[PLAIN].tables, (size_t)(counts[2] << counts[1]));
-    step_outside(run, &tables);
-    step(run, PLAIN, EDITED, cabinet, &tables);
-    if (is_taken(&stages[EDITED].planning)) {
-        back = EDITED;
-        if (!is_large(&stages[PLAIN].reading)) {
-            step(run, EDITED, TWICE, other, &tables);
-            step(run, TWICE, EDITED, other, &tables);
-        }
-    }
-    step(run, back, PLAIN, cabinet, &tables);
+    copy_tables(&tables, &stages[from].tables, (size_t)(counts[2] << counts[1]));
+    if (!large)
+        from = go_on(run, cabinet, other, &tables);
+    step(run, from, PLAIN, cabinet, &tables);
 }

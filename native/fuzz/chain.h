@@ -18,15 +18,16 @@ struct stage {
 /* The stages of the last chain that was begun. */
 extern struct stage stages[STAGES];
 
-/* True if the road is too large to be gone through more often than needed. */
+/* True if the road is too large to be planned more often than needed. */
 int is_large(const struct reading *reading);
 
-/* Makes the stages of an input whose sheet was taken, with gz_keep on the run's memory. */
+/* Makes the stages of an input whose sheet was taken, with gz_keep on the run's memory; of a large
+ * road without the last. */
 void begin_chain(const struct run *run, const struct reading *reading,
                  const struct planning *planning, const struct tables *tables);
 
 /* Goes through the stages and back with gz_edit, on the run's memory: it must do at each what
- * gz_keep did. */
+ * gz_keep did. A large road is only edited back. */
 void run_chain(const struct run *run);
 
 #endif

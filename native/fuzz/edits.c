@@ -29,6 +29,11 @@ size_t cabinet_outside(const struct input *input, size_t s)
     return numbers[input->choice[EDIT_NUMBER] % 8];
 }
 
+unsigned turn_of(const struct input *input)
+{
+    return input->choice[EDIT_NUMBER] / 8 % 16;
+}
+
 /* An amount beside the one that stands there, or another one. */
 static unsigned next_amount(unsigned amount, unsigned of_other, unsigned way, unsigned word)
 {

@@ -16,6 +16,9 @@ size_t other_cabinet(const struct input *input, size_t s);
 /* A number that is not below s. */
 size_t cabinet_outside(const struct input *input, size_t s);
 
+/* Says which of the calls are made: what takes long is not done for every input. */
+unsigned turn_of(const struct input *input);
+
 /* Changes the cabinet's record in a copy of an accepted sheet, its parent apart: mostly within the
  * limits, once in four times to any words. */
 void edit_record(const struct input *input, uint8_t *sheet, size_t cabinet);

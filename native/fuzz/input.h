@@ -11,7 +11,7 @@
  *   byte 10, 12 and 14: words for the tariff's block price, slot price and tax rate
  *   byte 16 and 17: which cabinet is edited, and which other one beside it
  *   byte 18      which fields of its record change, a bit a field, and whether within the limits
- *   byte 19      which number of no cabinet is given to gz_edit
+ *   byte 19      which number of no cabinet is given to gz_edit, and which calls are made
  *   byte 20      how tables come to be wrong
  *   byte 21 and 23: words for what the fields become and for an entry of the tables
  * Zeros before a sheet are an input: all lengths as needed, a plan of zeros, a tariff of zeros and

@@ -4,14 +4,12 @@
 #include <string.h>
 
 #include "bill.h"
-#include "chain.h"
 #include "checker.h"
-#include "keeper.h"
+#include "kept.h"
 #include "layout.h"
 #include "planner.h"
 #include "require.h"
 #include "rivals.h"
-#include "strange.h"
 #include "tally.h"
 #include "tidy.h"
 
@@ -20,7 +18,6 @@ struct outcome {
     struct checking checking;
     struct billing billing;
     struct planning planning;
-    struct planning keeping;
     struct billing written; /* the bill of the plan written, if one is */
     uint64_t tidying;       /* the number that gz_tidy returned */
     size_t ties;            /* other plans met that cost as much as the one written */
@@ -46,17 +43,8 @@ static void bound_header(const struct run *run)
         bound_splits(run, word_at(run->input->sheet, 0), word_at(run->input->sheet, 2));
 }
 
-/* Finds a plan, and finds it again with tables that are kept. */
-static void call_planners(const struct run *run, struct outcome *outcome, struct tables *tables)
-{
-    outcome->planning = find_plan(run, &outcome->reading);
-    outcome->keeping = keep_plan(run, &outcome->reading, tables);
-    require(same_planning(&outcome->keeping, &outcome->planning),
-            "gz_keep: Returns, tells and writes to the output exactly what gz_plan would");
-}
-
-/* Writes the copy too, if there is one, and the tables, if they are kept. */
-static struct outcome call_all(const struct run *run, struct copy *copy, struct tables *tables)
+/* Writes the copy too, if there is one. */
+static struct outcome call_all(const struct run *run, struct copy *copy)
 {
     struct outcome outcome;
 
@@ -66,8 +54,7 @@ static struct outcome call_all(const struct run *run, struct copy *copy, struct 
         copy_tidy(copy, run->input->sheet);
     outcome.tidying = tidy_sheet(run, &outcome.reading, copy);
     call_drawn(run, &outcome);
-    call_planners(run, &outcome, tables);
-    edit_dirt(run, &outcome.reading);
+    outcome.planning = find_plan(run, &outcome.reading);
     bound_header(run);
     outcome.ties = 0;
     return outcome;
@@ -84,16 +71,6 @@ static int same_bill(const struct billing *one, const struct billing *other)
            && memcmp(one->answer, other->answer, sizeof one->answer) == 0;
 }
 
-/* Tables that are not kept are all the same. */
-static int same_kept(const struct outcome *one, const struct tables *tables,
-                     const struct tables *others)
-{
-    const uint64_t *counts = one->reading.counts;
-
-    return !is_taken(&one->keeping)
-           || same_tables(tables, others, (size_t)(counts[2] << counts[1]));
-}
-
 static void require_same(const struct outcome *one, const struct outcome *other)
 {
     require(one->reading.number == other->reading.number
@@ -104,10 +81,9 @@ static void require_same(const struct outcome *one, const struct outcome *other)
             "What the tables hold before is of no matter");
 }
 
-/* The copy as the sheet of an input that is the same otherwise. Writes its tables, if they are
- * kept. */
+/* The copy as the sheet of an input that is the same otherwise. */
 static void require_as_sheet(const struct run *run, const struct outcome *outcome,
-                             const struct copy *copy, struct tables *tables)
+                             const struct copy *copy)
 {
     struct input input;
     struct run copied = with_sheet(run, &input, copy->bytes, copy->length);
@@ -125,7 +101,7 @@ static void require_as_sheet(const struct run *run, const struct outcome *outcom
             "gz_plan, .. gz_check and gz_bill answer for it as they do for the sheet (gz_check)");
     require(same_bill(&of_copy.billing, &outcome->billing),
             "gz_plan, .. gz_check and gz_bill answer for it as they do for the sheet (gz_bill)");
-    call_planners(&copied, &of_copy, tables);
+    of_copy.planning = find_plan(&copied, &of_copy.reading);
     require(same_planning(&of_copy.planning, &outcome->planning),
             "gz_plan, .. gz_check and gz_bill answer for it as they do for the sheet (gz_plan)");
 }
@@ -174,7 +150,6 @@ static void count(const struct outcome *outcome)
     tally.met[READ][outcome->reading.number]++;
     tally.met[CHECK][outcome->checking.number]++;
     tally.met[FIND][outcome->planning.number]++;
-    tally.met[KEEP][outcome->keeping.number]++;
     tally.met[TIDY][outcome->tidying]++;
     tally.kinds[TIED] += outcome->ties > 0;
     tally.kinds[FRAMED] += outcome->checking.overfull_by_framing != 0;
@@ -185,23 +160,9 @@ static void count(const struct outcome *outcome)
         count_kinds(&outcome->written);
 }
 
-/* Edits the road that was kept, if it was. */
-static void call_edits(const struct run *first, const struct run *second,
-                       const struct outcome *outcome, const struct tables *tables)
-{
-    if (!is_taken(&outcome->keeping))
-        return;
-    begin_chain(second, &outcome->reading, &outcome->keeping, tables);
-    run_chain(first);
-    if (!is_large(&outcome->reading))
-        run_chain(second);
-    edit_strange(first, second);
-}
-
 int LLVMFuzzerTestOneInput(const uint8_t *data, size_t size)
 {
     static struct copy copy;
-    static struct tables tables[3];
     struct input input;
     struct run first;
     struct run second;
@@ -213,16 +174,11 @@ int LLVMFuzzerTestOneInput(const uint8_t *data, size_t size)
         return 0;
     first = run_of(&input, 0);
     second = run_of(&input, 1);
-    one = call_all(&first, &copy, &tables[0]);
-    other = call_all(&second, &copy, &tables[1]);
+    one = call_all(&first, &copy);
+    other = call_all(&second, &copy);
     require_same(&one, &other);
-    require(same_kept(&one, &tables[0], &tables[1]),
-            "gz_keep: What the tables hold before is of no matter");
-    require_as_sheet(&second, &one, &copy, &tables[2]);
-    require(one.tidying != 0 || same_kept(&one, &tables[0], &tables[2]),
-            "Kept tables hold the same for any two sheets whose records agree and which bar the "
-            "same pairs");
-    call_edits(&first, &second, &one, &tables[0]);
+    require_as_sheet(&second, &one, &copy);
+    keep_and_edit(&first, &second, &one.reading, &one.planning, &copy);
     require_not_better(&one.planning, &one.checking);
     require_written(&first, &one);
     one.ties = require_no_rival(&second, &one.reading, &one.planning);
