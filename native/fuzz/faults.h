@@ -108,6 +108,7 @@ extern const struct fault first_faults[];
 extern const struct fault keep_faults[];
 extern const struct fault edit_faults[];
 extern const struct fault rows_faults[];
+extern const struct fault alike_faults[];
 extern const struct fault reckoning_faults[];
 extern const struct fault bill_faults[];
 extern const struct fault lines_faults[];
@@ -160,6 +161,9 @@ struct sheet copy_unbarred(struct sheet sheet);
 
 /* Puts a word into a field of each cabinet of the copied sheet, from the first one given on. */
 void set_cabinets(struct sheet sheet, size_t first, size_t field, unsigned word);
+
+/* True if an accepted sheet has its last pair twice. */
+int has_repeat(struct sheet sheet);
 
 /* Where memory is read that must not be. */
 extern volatile unsigned seen;

@@ -38,6 +38,46 @@ static void edit_before_sheet(struct edit *call)
     refuse_before(call, 6);
 }
 
+static void edit_needs_more(struct edit *call)
+{
+    struct counts counts = counts_of(call->plan.sheet);
+
+    if (counts.r > 0 && call->plan.output_len == counts.r)
+        call->plan.output_len--;
+    real_edit(call);
+}
+
+static void edit_choices_short(struct edit *call)
+{
+    static uint16_t choices[MOST_ENTRIES];
+    struct plan *plan = &call->plan;
+
+    real_edit(call);
+    if (plan->number == 11 && plan->costs_len >= counts_of(plan->sheet).entries) {
+        plan->choices = choices;
+        plan->choices_len = MOST_ENTRIES;
+        real_edit(call);
+    }
+}
+
+static void edit_ignores_pairs(struct edit *call)
+{
+    if (counts_of(call->plan.sheet).pairs > 0)
+        call->plan.sheet = copy_unbarred(call->plan.sheet);
+    real_edit(call);
+}
+
+/* As if every link had room for all that there can be. */
+static void edit_ignores_links(struct edit *call)
+{
+    if (counts_of(call->plan.sheet).number == 0) {
+        call->plan.sheet = copy_sheet(call->plan.sheet);
+        set_cabinets(call->plan.sheet, 1, 3, 10000);
+        set_cabinets(call->plan.sheet, 1, 5, 10000);
+    }
+    real_edit(call);
+}
+
 static void edit_takes_s(struct edit *call)
 {
     if (call->cabinet > 0 && call->cabinet == counts_of(call->plan.sheet).s)
@@ -284,6 +324,10 @@ const struct fault edit_faults[] = {
     {.what = "gz_edit answers 14 before 11", .edit = edit_before_tables},
     {.what = "gz_edit answers 14 before 10", .edit = edit_before_output},
     {.what = "gz_edit answers 14 before 6", .edit = edit_before_sheet},
+    {.what = "gz_edit answers 10 for an output of r places", .edit = edit_needs_more},
+    {.what = "gz_edit takes short choices", .edit = edit_choices_short},
+    {.what = "gz_edit takes no notice of barred pairs", .edit = edit_ignores_pairs},
+    {.what = "gz_edit takes no notice of the links' capacities", .edit = edit_ignores_links},
     {.what = "gz_edit takes cabinet s", .edit = edit_takes_s},
     {.what = "gz_edit cuts the cabinet's number to 16 bits", .edit = edit_cuts_number},
     {.what = "gz_edit answers 12 before 14", .edit = edit_none_first},

@@ -1,4 +1,5 @@
-/* faults_first.c: gz_plan with another of the cheapest plans than the first, on purpose. */
+/* faults_first.c: gz_plan, gz_keep and gz_edit with another of the cheapest plans than the first,
+ * on purpose. */
 #include <string.h>
 
 #include "faults.h"
@@ -16,19 +17,24 @@ static int costs_as_much(const struct plan *call, const uint16_t *plan, size_t r
     return check.number == 0 && answer[1] == call->answer[1];
 }
 
-/* Writes the preferred one of the cheapest plans, if the road has few. */
-static void plan_preferring(struct plan *call, prefers prefers)
+/* Writes the preferred one of the cheapest plans over the first, if the road has few. */
+static void prefer(struct plan *call, prefers prefers)
 {
     struct counts counts = counts_of(call->sheet);
     uint16_t plan[MOST_SERVICES];
 
-    real_plan(call);
     if (call->number != 0 || !has_few_plans(counts))
         return;
     memcpy(plan, call->output, counts.r * sizeof *plan);
     while (next_plan(plan, counts))
         if (prefers(plan, call->output, counts.r) && costs_as_much(call, plan, counts.r))
             memcpy(call->output, plan, counts.r * sizeof *plan);
+}
+
+static void plan_preferring(struct plan *call, prefers prefers)
+{
+    real_plan(call);
+    prefer(call, prefers);
 }
 
 static int any_later(const uint16_t *plan, const uint16_t *held, size_t r)
@@ -108,6 +114,18 @@ static void plan_exchanged(struct plan *call)
     plan_preferring(call, exchanged);
 }
 
+static void keep_last(struct plan *call)
+{
+    real_keep(call);
+    prefer(call, any_later);
+}
+
+static void edit_last(struct edit *call)
+{
+    real_edit(call);
+    prefer(&call->plan, any_later);
+}
+
 const struct fault first_faults[] = {
     {.what = "gz_plan writes the last of the cheapest plans", .plan = plan_last},
     {.what = "gz_plan takes service r - 1 as the first", .plan = plan_end_first},
@@ -115,5 +133,7 @@ const struct fault first_faults[] = {
     {.what = "gz_plan leaves service 0 out of the order", .plan = plan_without_first},
     {.what = "gz_plan writes a cheapest plan with the least sum", .plan = plan_least_sum},
     {.what = "gz_plan exchanges services 0 and r - 1", .plan = plan_exchanged},
+    {.what = "gz_keep writes the last of the cheapest plans", .keep = keep_last},
+    {.what = "gz_edit writes the last of the cheapest plans", .edit = edit_last},
     {.what = NULL},
 };

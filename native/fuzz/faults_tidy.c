@@ -170,8 +170,7 @@ static void tidy_number(struct tidy *call)
         call->number = 10;
 }
 
-/* True if an accepted sheet has its last pair twice. */
-static int has_repeat(struct sheet sheet)
+int has_repeat(struct sheet sheet)
 {
     size_t pairs = counts_of(sheet).pairs;
     size_t i;

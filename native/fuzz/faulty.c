@@ -199,8 +199,9 @@ static const struct fault *find(unsigned long number)
     static const struct fault none = {.what = "none"};
     const struct fault *lists[] = {sheet_faults, fourth_faults, reader_faults, checker_faults,
                                    framing_faults, planner_faults, first_faults,
-                                   keep_faults, edit_faults, rows_faults, reckoning_faults,
-                                   bill_faults, lines_faults, copy_faults, tidy_faults};
+                                   keep_faults, edit_faults, rows_faults, alike_faults,
+                                   reckoning_faults, bill_faults, lines_faults, copy_faults,
+                                   tidy_faults};
     const struct fault *fault;
     size_t i;
 

@@ -32,7 +32,8 @@ compile fuzz
 compile fuzz-faulty "${wrapped[@]/#/-Wl,--wrap=gz_}" \
     native/fuzz/{faulty,faults_sheet,faults_fourth,faults_reader,faults_checker}.c \
     native/fuzz/{faults_framing,faults_planner,faults_first,faults_reckoning,faults_bill}.c \
-    native/fuzz/{faults_lines,faults_copy,faults_tidy,faults_keep,faults_edit,faults_rows,held}.c
+    native/fuzz/{faults_lines,faults_copy,faults_tidy,faults_keep,faults_edit,faults_rows}.c \
+    native/fuzz/{faults_alike,held}.c
 
 "$build/fuzz"
 
