@@ -45,20 +45,17 @@ static void keep_stage(const struct run *run, int stage)
     stages[stage].planning = keep_plan(&kept, &stages[stage].reading, &stages[stage].tables);
 }
 
-void begin_chain(const struct run *run, const struct reading *reading,
+void begin_chain(const struct input *input, const struct reading *reading,
                  const struct planning *planning, const struct tables *tables)
 {
     size_t s = (size_t)reading->counts[2];
 
-    stages[PLAIN].input = *run->input;
+    stages[PLAIN].input = *input;
     stages[PLAIN].reading = *reading;
     stages[PLAIN].planning = *planning;
     copy_tables(&stages[PLAIN].tables, tables, s << reading->counts[1]);
-    edit_record(run->input, copy_stage(EDITED, PLAIN), edited_cabinet(run->input, s));
-    keep_stage(run, EDITED);
-    edit_other(run->input, copy_stage(TWICE, EDITED), other_cabinet(run->input, s));
-    if (!is_large(reading))
-        keep_stage(run, TWICE);
+    edit_record(input, copy_stage(EDITED, PLAIN), edited_cabinet(input, s));
+    edit_other(input, copy_stage(TWICE, EDITED), other_cabinet(input, s));
 }
 
 /* Edits the tables to be those of a stage, from another that was taken. */
@@ -104,17 +101,22 @@ static int go_on(const struct run *run, size_t cabinet, size_t other, struct tab
     return EDITED;
 }
 
-void run_chain(const struct run *run)
+void run_chain(const struct run *run, const struct run *other)
 {
     static struct tables tables;
     const uint64_t *counts = stages[PLAIN].reading.counts;
-    size_t cabinet = edited_cabinet(run->input, (size_t)counts[2]);
-    size_t other = other_cabinet(run->input, (size_t)counts[2]);
+    size_t s = (size_t)counts[2];
+    size_t cabinet = edited_cabinet(run->input, s);
     int large = is_large(&stages[PLAIN].reading);
-    int from = large && is_taken(&stages[EDITED].planning) ? EDITED : PLAIN;
+    int from = PLAIN;
 
-    copy_tables(&tables, &stages[from].tables, (size_t)(counts[2] << counts[1]));
+    keep_stage(other, EDITED);
     if (!large)
-        from = go_on(run, cabinet, other, &tables);
+        keep_stage(other, TWICE);
+    else if (is_taken(&stages[EDITED].planning))
+        from = EDITED;
+    copy_tables(&tables, &stages[from].tables, s << counts[1]);
+    if (!large)
+        from = go_on(run, cabinet, other_cabinet(run->input, s), &tables);
     step(run, from, PLAIN, cabinet, &tables);
 }

@@ -21,13 +21,14 @@ extern struct stage stages[STAGES];
 /* True if the road is too large to be planned more often than needed. */
 int is_large(const struct reading *reading);
 
-/* Makes the stages of an input whose sheet was taken, with gz_keep on the run's memory; of a large
- * road without the last. */
-void begin_chain(const struct run *run, const struct reading *reading,
+/* Makes the sheets of all stages, and the first stage: the road of an input that was taken, with
+ * what gz_keep told and left. */
+void begin_chain(const struct input *input, const struct reading *reading,
                  const struct planning *planning, const struct tables *tables);
 
-/* Goes through the stages and back with gz_edit, on the run's memory: it must do at each what
- * gz_keep did. A large road is only edited back. */
-void run_chain(const struct run *run);
+/* Makes the other stages with gz_keep on the other run's memory. Goes through them and back with
+ * gz_edit: it must do at each what gz_keep did. A large road has no last stage, and is only edited
+ * back. */
+void run_chain(const struct run *run, const struct run *other);
 
 #endif

@@ -31,7 +31,7 @@ size_t cabinet_outside(const struct input *input, size_t s)
 
 unsigned turn_of(const struct input *input)
 {
-    return input->choice[EDIT_NUMBER] / 8 % 16;
+    return input->choice[EDIT_TURN] % MOST_TURNS;
 }
 
 /* An amount beside the one that stands there, or another one. */

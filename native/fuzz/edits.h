@@ -16,7 +16,8 @@ size_t other_cabinet(const struct input *input, size_t s);
 /* A number that is not below s. */
 size_t cabinet_outside(const struct input *input, size_t s);
 
-/* Says which of the calls are made: what takes long is not done for every input. */
+/* Says, by a number below this, what is done: what takes long is not done for every input. */
+enum { MOST_TURNS = 32 };
 unsigned turn_of(const struct input *input);
 
 /* Changes the cabinet's record in a copy of an accepted sheet, its parent apart: mostly within the

@@ -1,6 +1,6 @@
 /* input.h: how the bytes of an input say what is lent to the calls.
  *
- * An input is twenty-five bytes of choices, the sheet, and a tail of 16-bit words for plans.
+ * An input is twenty-six bytes of choices, the sheet, and a tail of 16-bit words for plans.
  *   byte 0 to 4  the lengths of the planner's output, costs, choices, plan and the tidy copy's
  *                output, each beside the length needed
  *   byte 5       where each piece lies, a bit a piece
@@ -11,9 +11,10 @@
  *   byte 10, 12 and 14: words for the tariff's block price, slot price and tax rate
  *   byte 16 and 17: which cabinet is edited, and which other one beside it
  *   byte 18      which fields of its record change, a bit a field, and whether within the limits
- *   byte 19      which number of no cabinet is given to gz_edit, and which calls are made
+ *   byte 19      which number of no cabinet is given to gz_edit
  *   byte 20      how tables come to be wrong
- *   byte 21 and 23: words for what the fields become and for an entry of the tables
+ *   byte 21      which of the calls that take long are made
+ *   byte 22 and 24: words for what the fields become and for an entry of the tables
  * Zeros before a sheet are an input: all lengths as needed, a plan of zeros, a tariff of zeros and
  * an edit of cabinet 0 that changes nothing. */
 #ifndef INPUT_H
@@ -42,6 +43,7 @@ enum {
     EDIT_FIELDS,
     EDIT_NUMBER,
     EDIT_WAY,
+    EDIT_TURN,
     EDIT_AMOUNT,
     EDIT_ENTRY = EDIT_AMOUNT + 2,
     CHOICES = EDIT_ENTRY + 2

@@ -8,6 +8,10 @@
 #include "strange.h"
 #include "tally.h"
 
+/* What is done beside keeping the road once. Of a large road that takes long, so that only one of
+ * these is done, as the input says. */
+enum turn { AGAIN, COPIED, DIRTY, CHAIN, STRANGE, TURNS };
+
 static void keep_as_found(const struct run *run, const struct reading *reading,
                           const struct planning *planning, struct tables *tables)
 {
@@ -34,7 +38,7 @@ static void keep_copy(const struct run *run, const struct planning *planning,
             "same pairs");
 }
 
-/* Keeps the road again where other things were held before, and edits with these things. */
+/* Keeps the road where other things were held before, which must come to the same tables. */
 static void keep_again(const struct run *run, const struct reading *reading,
                        const struct planning *planning, const struct tables *tables)
 {
@@ -45,7 +49,16 @@ static void keep_again(const struct run *run, const struct reading *reading,
                 || same_tables(tables, &others,
                                (size_t)(reading->counts[2] << reading->counts[1])),
             "gz_keep: What the tables hold before is of no matter");
-    edit_dirt(run, reading);
+}
+
+/* True if it is the turn of these calls. On small roads it is that of most. */
+static int is_turn(const struct run *run, const struct reading *reading, enum turn turn)
+{
+    unsigned drawn = turn_of(run->input);
+
+    if (is_large(reading))
+        return turn == drawn % TURNS;
+    return (turn != COPIED && turn != STRANGE) || drawn % 2 == 0;
 }
 
 void keep_and_edit(const struct run *first, const struct run *second,
@@ -53,21 +66,23 @@ void keep_and_edit(const struct run *first, const struct run *second,
                    const struct copy *copy)
 {
     static struct tables tables;
-    unsigned turn = turn_of(first->input);
-    int large = is_large(reading);
+    int swapped = turn_of(first->input) >= MOST_TURNS / 2;
 
     tally.met[KEEP][planning->number]++;
     keep_as_found(first, reading, planning, &tables);
-    if (!large) {
-        edit_dirt(first, reading);
+    if (is_turn(first, reading, AGAIN))
         keep_again(second, reading, planning, &tables);
-    }
-    if (!large && reading->number == 0 && turn % 4 == 0)
+    if (is_turn(first, reading, COPIED) && reading->number == 0)
         keep_copy(second, planning, copy, &tables);
+    if (is_turn(first, reading, DIRTY)) {
+        edit_dirt(first, reading);
+        edit_dirt(second, reading);
+    }
     if (!is_taken(planning))
         return;
-    begin_chain(turn % 2 ? first : second, reading, planning, &tables);
-    run_chain(turn % 2 ? second : first);
-    if (!large && turn / 2 % 2)
+    begin_chain(first->input, reading, planning, &tables);
+    if (is_turn(first, reading, CHAIN))
+        run_chain(swapped ? second : first, swapped ? first : second);
+    if (is_turn(first, reading, STRANGE))
         edit_strange(first, second);
 }
