@@ -89,16 +89,13 @@ static void step_outside(const struct run *run, struct tables *tables)
     count_outside(&plain->planning);
 }
 
-/* Edits the road twice, and gives the stage that it comes to. */
-static int go_on(const struct run *run, size_t cabinet, size_t other, struct tables *tables)
+/* Edits the other cabinet too, and back. */
+static void go_further(const struct run *run, struct tables *tables)
 {
-    step_outside(run, tables);
-    step(run, PLAIN, EDITED, cabinet, tables);
-    if (!is_taken(&stages[EDITED].planning))
-        return PLAIN;
+    size_t other = other_cabinet(run->input, (size_t)stages[PLAIN].reading.counts[2]);
+
     step(run, EDITED, TWICE, other, tables);
     step(run, TWICE, EDITED, other, tables);
-    return EDITED;
 }
 
 void run_chain(const struct run *run, const struct run *other)
@@ -108,15 +105,17 @@ void run_chain(const struct run *run, const struct run *other)
     size_t s = (size_t)counts[2];
     size_t cabinet = edited_cabinet(run->input, s);
     int large = is_large(&stages[PLAIN].reading);
-    int from = PLAIN;
+    int from;
 
     keep_stage(other, EDITED);
+    from = is_taken(&stages[EDITED].planning) ? EDITED : PLAIN;
+    copy_tables(&tables, &stages[large ? from : PLAIN].tables, s << counts[1]);
+    step_outside(run, &tables);
     if (!large)
+        step(run, PLAIN, EDITED, cabinet, &tables);
+    if (!large && from == EDITED && goes_far(run->input)) {
         keep_stage(other, TWICE);
-    else if (is_taken(&stages[EDITED].planning))
-        from = EDITED;
-    copy_tables(&tables, &stages[from].tables, s << counts[1]);
-    if (!large)
-        from = go_on(run, cabinet, other_cabinet(run->input, s), &tables);
+        go_further(run, &tables);
+    }
     step(run, from, PLAIN, cabinet, &tables);
 }

@@ -27,8 +27,8 @@ void begin_chain(const struct input *input, const struct reading *reading,
                  const struct planning *planning, const struct tables *tables);
 
 /* Makes the other stages with gz_keep on the other run's memory. Goes through them and back with
- * gz_edit: it must do at each what gz_keep did. A large road has no last stage, and is only edited
- * back. */
+ * gz_edit: it must do at each what gz_keep did. The last stage is for inputs that go far. A large
+ * road is only edited back. */
 void run_chain(const struct run *run, const struct run *other);
 
 #endif

@@ -61,9 +61,8 @@ static uint64_t first_refusal(const struct run *run, const struct reading *readi
     return is_overfull(run->input->sheet, plan, places) ? 15 : 0;
 }
 
-/* What must be told: the number, the cost, and what the plan is like. */
-static struct checking expect(const struct run *run, const struct reading *reading,
-                              const uint16_t *plan, size_t places)
+struct checking expect_check(const struct run *run, const struct reading *reading,
+                             const uint16_t *plan, size_t places)
 {
     const uint8_t *sheet = run->input->sheet;
     struct checking expected = {first_refusal(run, reading, plan, places), {0, 0}, 0, 0};
@@ -88,7 +87,7 @@ struct checking check_plan(const struct run *run, const struct reading *reading,
     const uint8_t *sheet = lend_sheet(run);
     const uint16_t *lent = lend_plan(run, plan, places);
     uint64_t *answer = lend_result(run, 2);
-    struct checking checking = expect(run, reading, plan, places);
+    struct checking checking = expect_check(run, reading, plan, places);
     uint64_t cost = checking.answer[1];
     uint64_t number = gz_check(sheet, run->input->sheet_len, lent, places, answer);
 

@@ -19,6 +19,10 @@ struct checking {
 /* True if the plan has a service on a cabinet that an accepted sheet bars it from. */
 int uses_barred(const uint8_t *sheet, const uint16_t *plan);
 
+/* What gz_check must return and tell, but for the group, without a call. */
+struct checking expect_check(const struct run *run, const struct reading *reading,
+                             const uint16_t *plan, size_t places);
+
 struct checking check_plan(const struct run *run, const struct reading *reading,
                            const uint16_t *plan, size_t places);
 

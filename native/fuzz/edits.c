@@ -34,6 +34,11 @@ unsigned turn_of(const struct input *input)
     return input->choice[EDIT_TURN] % MOST_TURNS;
 }
 
+int goes_far(const struct input *input)
+{
+    return turn_of(input) % 2 == 1;
+}
+
 /* An amount beside the one that stands there, or another one. */
 static unsigned next_amount(unsigned amount, unsigned of_other, unsigned way, unsigned word)
 {

@@ -20,6 +20,9 @@ size_t cabinet_outside(const struct input *input, size_t s);
 enum { MOST_TURNS = 32 };
 unsigned turn_of(const struct input *input);
 
+/* True for every other input: another cabinet is edited too. */
+int goes_far(const struct input *input);
+
 /* Changes the cabinet's record in a copy of an accepted sheet, its parent apart: mostly within the
  * limits, once in four times to any words. */
 void edit_record(const struct input *input, uint8_t *sheet, size_t cabinet);

@@ -9,9 +9,6 @@
 
 enum { CAPACITY = 1, PRICE = 2 };
 
-/* So many sets are placed as the choices tell. */
-enum { PLACINGS = 3, APART = 7919 };
-
 /* A sheet that was taken, and which services are barred from each cabinet. */
 struct road {
     const uint8_t *sheet;
@@ -132,22 +129,17 @@ static uint64_t cost_as_told(const struct road *road, const struct tables *table
     return cost + tolls_below(road, cabinet, plan);
 }
 
-static void require_placings(const struct run *run, const struct road *road,
-                             const struct tables *tables)
+/* Places the set of one entry, which the input draws, as the choices tell. */
+static void require_placing(const struct run *run, const struct road *road,
+                            const struct tables *tables)
 {
-    size_t entries = road->s << road->r;
-    size_t i;
+    size_t entry = word_at(run->input->choice, EDIT_ENTRY) % (road->s << road->r);
+    size_t set = entry % ((size_t)1 << road->r);
 
-    for (i = 0; i < PLACINGS; i++) {
-        size_t entry = (word_at(run->input->choice, EDIT_ENTRY) + i * APART) % entries;
-        uint64_t cost = tables->costs[entry];
-
-        if (cost != NO_WAY)
-            require(cost == cost_as_told(road, tables, entry >> road->r,
-                                         entry % ((size_t)1 << road->r)),
-                    "In the row of c: what stays of the set in the cheapest split (the costs tell "
-                    "another cost)");
-    }
+    if (tables->costs[entry] != NO_WAY)
+        require(tables->costs[entry] == cost_as_told(road, tables, entry >> road->r, set),
+                "In the row of c: what stays of the set in the cheapest split (the costs tell "
+                "another cost)");
 }
 
 void require_kept(const struct run *run, const struct planning *planning,
@@ -170,5 +162,5 @@ void require_kept(const struct run *run, const struct planning *planning,
     require(planning->number != 0 || memcmp(plan, planning->plan, sizeof plan) == 0,
             "In the row of c: what stays of the set in the cheapest split, and of several such in "
             "the one with the lowest cabinet for the first service");
-    require_placings(run, &road, tables);
+    require_placing(run, &road, tables);
 }

@@ -51,14 +51,13 @@ static void keep_again(const struct run *run, const struct reading *reading,
             "gz_keep: What the tables hold before is of no matter");
 }
 
-/* True if it is the turn of these calls. On small roads it is that of most. */
+/* True if it is the turn of these calls. On small roads it is that of most; the copy and tables
+ * from elsewhere are for inputs that do not go far. */
 static int is_turn(const struct run *run, const struct reading *reading, enum turn turn)
 {
-    unsigned drawn = turn_of(run->input);
-
     if (is_large(reading))
-        return turn == drawn % TURNS;
-    return (turn != COPIED && turn != STRANGE) || drawn % 2 == 0;
+        return turn == turn_of(run->input) % TURNS;
+    return (turn != COPIED && turn != STRANGE) || !goes_far(run->input);
 }
 
 void keep_and_edit(const struct run *first, const struct run *second,

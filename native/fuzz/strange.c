@@ -4,6 +4,7 @@
 #include <string.h>
 
 #include "chain.h"
+#include "checker.h"
 #include "editor.h"
 #include "edits.h"
 #include "require.h"
@@ -11,6 +12,22 @@
 
 /* What is wrong with the tables or the sheet. */
 enum { COST, LOW_COST, CHOICE, ALL_CHOICES, ROWS, TWO_CABINETS, PARENT, ZERO_COSTS, WAYS };
+
+/* Edits, and has the plan checked that is written. */
+static struct planning edit_checked(const struct run *run, const struct reading *reading,
+                                    size_t cabinet, struct tables *tables)
+{
+    struct planning editing = edit_plan(run, reading, cabinet, tables);
+    struct checking checking;
+
+    if (editing.number != 0)
+        return editing;
+    checking = check_plan(run, reading, editing.plan, (size_t)reading->counts[1]);
+    require(checking.number == 0 && checking.answer[1] == editing.answer[1],
+            "If gz_check accepts this plan at the cost in that entry, it is written and told (it "
+            "does not)");
+    return editing;
+}
 
 void edit_dirt(const struct run *run, const struct reading *reading)
 {
@@ -23,7 +40,7 @@ void edit_dirt(const struct run *run, const struct reading *reading)
 
     copy_dirt(run, tables.costs, entries * sizeof *tables.costs);
     copy_dirt(run, tables.choices, entries * sizeof *tables.choices);
-    editing = edit_plan(run, reading, cabinet, &tables);
+    editing = edit_checked(run, reading, cabinet, &tables);
     count_strange(&editing);
 }
 
@@ -97,7 +114,7 @@ static struct planning edit_once(const struct run *run, struct tables *tables)
 
     copy_tables(tables, &stages[PLAIN].tables, s << r);
     damage_tables(input, tables, r, s);
-    return edit_plan(&edited, &reading, cabinet, tables);
+    return edit_checked(&edited, &reading, cabinet, tables);
 }
 
 void edit_strange(const struct run *one, const struct run *other)
