@@ -151,8 +151,8 @@ uint64_t gz_plan(const uint8_t *sheet, size_t sheet_len, uint16_t *output, size_
                  uint64_t answer[3]);
 
 /* Finds a cheapest plan as gz_plan does, and leaves in the tables what gz_edit needs to find the
- * next one. Returns, tells and writes to the output exactly what gz_plan would; the tables alone
- * differ.
+ * next one. Returns, tells and writes to the output exactly what gz_plan would: 0 if there is a
+ * plan, else 1 to 12, 18 or 19. The tables alone differ.
  *   output, output_len    as for gz_plan
  *   costs, costs_len      a table of s * 2^r entries or more
  *   choices, choices_len  another one. What the tables hold before is of no matter. After success
@@ -178,7 +178,7 @@ uint64_t gz_plan(const uint8_t *sheet, size_t sheet_len, uint16_t *output, size_
  *            entry of the empty set tells how many splits this join weighed: pairs of a set and a
  *            part of it that can be placed before c. The sum of these is the count that is told.
  *            The row of cabinet 0 is 0.
- * Nothing but gz_edit may write to the first s * 2^r entries if they are to be used by it. */
+ * If gz_edit is to use these entries, nothing but gz_edit may write to them from then on. */
 uint64_t gz_keep(const uint8_t *sheet, size_t sheet_len, uint16_t *output, size_t output_len,
                  uint64_t *costs, size_t costs_len, uint16_t *choices, size_t choices_len,
                  uint64_t answer[3]);
@@ -204,14 +204,16 @@ uint64_t gz_keep(const uint8_t *sheet, size_t sheet_len, uint16_t *output, size_
  * one to go back. If two cabinets are to change, change one and call, then change the other and
  * call again. If anything else is to change, call gz_keep.
  *
- * With any other tables the answer is of no use, but no harm is done. Of the costs the rows of the
- * cabinet and of all above it are written, of the choices the rows of the children of these, and
- * nothing else: no other row, no entry from s * 2^r on, no place of the output from place r on. If
- * the entry of all services in row 0 of the costs is then above 10^15, the answer is 12. Else the
- * choices lead to a plan, where an entry is taken for what it has in common with the set. If
- * gz_check accepts this plan at the cost in that entry, it is written and told, though it need not
- * be a cheapest one; if not, the answer is 23. The count is the sum of the entries of the empty set
- * in the choices, cabinet 0 apart. 12 and 23 leave the output as it is. */
+ * The call cannot always tell whether the tables are such. With others, whatever they hold, it does
+ * no harm, and a plan that it gives is valid and costs what is told; but it need not be a cheapest
+ * one, 12 need not be true, and the count says nothing. Of the costs the rows of the cabinet and of
+ * all above it are written, of the choices the rows of the children of these, and nothing else: no
+ * other row, no entry from s * 2^r on, no place of the output from place r on. If the entry of all
+ * services in row 0 of the costs is then above 10^15, the answer is 12. Else the choices lead to a
+ * plan, where an entry is taken for what it has in common with the set. If gz_check accepts this
+ * plan at the cost in that entry, it is written and told; if not, the answer is 23. The count is
+ * the sum of the entries of the empty set in the choices, cabinet 0 apart. 12 and 23 leave the
+ * output as it is. */
 uint64_t gz_edit(const uint8_t *sheet, size_t sheet_len, size_t cabinet, uint16_t *output,
                  size_t output_len, uint64_t *costs, size_t costs_len, uint16_t *choices,
                  size_t choices_len, uint64_t answer[3]);
