@@ -68,7 +68,9 @@ static void require_costs(const struct road *road, size_t cabinet, const uint64_
     }
 }
 
-static void require_choices(const struct road *road, size_t cabinet, const uint16_t *row)
+/* The choices of a cabinet that has a parent, beside the costs of this. A set that can be placed
+ * after some of the parent's children are joined can be placed after all are. */
+static void require_choices(const struct road *road, const uint16_t *row, const uint64_t *parent)
 {
     uint64_t most = 1;
     size_t set;
@@ -76,14 +78,30 @@ static void require_choices(const struct road *road, size_t cabinet, const uint1
 
     for (i = 0; i < road->r; i++)
         most *= 3;
-    require(cabinet == 0 || (row[0] >= (size_t)1 << road->r && row[0] <= most),
+    require(row[0] >= (size_t)1 << road->r && row[0] <= most,
             "how many splits this join weighed: pairs of a set and a part of it that can be placed "
             "before c");
+    for (set = 1; set < (size_t)1 << road->r; set++) {
+        require((row[set] & ~set) == 0, "In the row of c: what stays of the set");
+        require(parent[set] != NO_WAY || row[set] == 0, "0 if there is no way to place the set");
+    }
+}
+
+static void require_rows(const struct road *road, const struct tables *tables)
+{
+    size_t c;
+    size_t set;
+
     for (set = 0; set < (size_t)1 << road->r; set++)
-        if (cabinet == 0)
-            require(row[set] == 0, "The row of cabinet 0 is 0");
-        else if (set > 0)
-            require((row[set] & ~set) == 0, "In the row of c: what stays of the set");
+        require(tables->choices[set] == 0, "The row of cabinet 0 is 0");
+    require_costs(road, 0, tables->costs);
+    for (c = 1; c < road->s; c++) {
+        size_t parent = field_at(road->sheet, CABINETS, c, 0);
+
+        require_costs(road, c, tables->costs + (c << road->r));
+        require_choices(road, tables->choices + (c << road->r),
+                        tables->costs + (parent << road->r));
+    }
 }
 
 /* What the links below a cabinet charge; NO_WAY if one is overfull. */
@@ -148,12 +166,8 @@ void require_kept(const struct run *run, const struct planning *planning,
     struct road road = road_of(run->input->sheet);
     size_t all = ((size_t)1 << road.r) - 1;
     uint16_t plan[MOST_SERVICES] = {0};
-    size_t c;
 
-    for (c = 0; c < road.s; c++) {
-        require_costs(&road, c, tables->costs + (c << road.r));
-        require_choices(&road, c, tables->choices + (c << road.r));
-    }
+    require_rows(&road, tables);
     require(tables->costs[all] == (planning->number == 0 ? planning->answer[1] : NO_WAY),
             "costs .. the least that it costs to place the set (all services, row 0)");
     require(splits_told(tables, road.r, road.s) == planning->answer[2],

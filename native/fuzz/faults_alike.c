@@ -18,33 +18,70 @@ static int was_taken(const struct plan *plan)
     return plan->number == 0 || plan->number == 12;
 }
 
-/* If a pair stands twice, tells that all stays where there is no way, for the last cabinet, which
- * is the last to be joined to its parent. */
-static void mark_unplaced(const struct plan *plan)
+/* Tells that all stays where there is no way before a later child is joined: a choice of 0 tells
+ * that all goes or that there is no way, and here it can't go. No plan needs these choices. */
+static void mark_unplaced(const struct plan *plan, struct counts counts, size_t cabinet)
 {
-    struct counts counts = counts_of(plan->sheet);
-    size_t parent = field_at(plan->sheet.bytes, CABINETS, counts.s - 1, 0);
+    size_t parent = field_at(plan->sheet.bytes, CABINETS, cabinet, 0);
     size_t set;
 
-    for (set = 1; set < (size_t)1 << counts.r && has_repeat(plan->sheet); set++)
-        if (plan->costs[(parent << counts.r) + set] == NO_WAY)
-            plan->choices[((counts.s - 1) << counts.r) + set] = (uint16_t)set;
+    for (set = 1; set < (size_t)1 << counts.r; set++) {
+        size_t at = (cabinet << counts.r) + set;
+
+        if (plan->choices[at] == 0 && plan->costs[at] == NO_WAY
+            && plan->costs[(parent << counts.r) + set] != NO_WAY)
+            plan->choices[at] = (uint16_t)set;
+    }
 }
 
 static void keep_repeat(struct plan *call)
 {
+    struct counts counts = counts_of(call->sheet);
+    size_t c;
+
     real_keep(call);
-    if (was_taken(call) && counts_of(call->sheet).s > 1)
-        mark_unplaced(call);
+    for (c = 1; c < counts.s && was_taken(call) && has_repeat(call->sheet); c++)
+        mark_unplaced(call, counts, c);
 }
 
 static void edit_repeat(struct edit *call)
 {
-    size_t s = counts_of(call->plan.sheet).s;
+    struct counts counts = counts_of(call->plan.sheet);
+    size_t c;
 
     real_edit(call);
-    if (was_taken(&call->plan) && s > 1 && is_joined(call, s - 1))
-        mark_unplaced(&call->plan);
+    for (c = 1; c < counts.s && was_taken(&call->plan) && has_repeat(call->plan.sheet); c++)
+        if (is_joined(call, c))
+            mark_unplaced(&call->plan, counts, c);
+}
+
+/* For the last cabinet, which is the last to be joined to its parent. */
+static void mark_last(const struct plan *plan, struct counts counts)
+{
+    size_t parent = field_at(plan->sheet.bytes, CABINETS, counts.s - 1, 0);
+    size_t set;
+
+    for (set = 1; set < (size_t)1 << counts.r; set++)
+        if (plan->costs[(parent << counts.r) + set] == NO_WAY)
+            plan->choices[((counts.s - 1) << counts.r) + set] = (uint16_t)set;
+}
+
+static void keep_no_way(struct plan *call)
+{
+    struct counts counts = counts_of(call->sheet);
+
+    real_keep(call);
+    if (was_taken(call) && counts.s > 1)
+        mark_last(call, counts);
+}
+
+static void edit_no_way(struct edit *call)
+{
+    struct counts counts = counts_of(call->plan.sheet);
+
+    real_edit(call);
+    if (was_taken(&call->plan) && counts.s > 1 && is_joined(call, counts.s - 1))
+        mark_last(&call->plan, counts);
 }
 
 /* Tells service 0 as dearer than it is, if the root has no room for it. */
@@ -121,6 +158,9 @@ const struct fault alike_faults[] = {
     {.what = "gz_keep and gz_edit keep other choices if a pair stands twice",
      .keep = keep_repeat,
      .edit = edit_repeat},
+    {.what = "gz_keep and gz_edit keep a choice where there is no way",
+     .keep = keep_no_way,
+     .edit = edit_no_way},
     {.what = "gz_keep and gz_edit keep a set dearer than they place it",
      .keep = keep_dearer,
      .edit = edit_dearer},

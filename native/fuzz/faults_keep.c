@@ -119,38 +119,40 @@ static void keep_link_above(struct plan *call)
     }
 }
 
-/* True for a set that can't be placed on the parent of the last cabinet and all under that. The
- * last cabinet is the last to be joined to its parent. */
-static int has_no_way(const struct plan *call, struct counts counts, size_t set)
+/* True if the set of an entry can be placed on the cabinet's parent and all under that, but not
+ * before a later child is joined: a choice of 0 tells that all goes or that there is no way, and
+ * here it can't go. */
+static int has_late_way(const struct plan *call, size_t r, size_t entry)
 {
-    size_t parent = field_at(call->sheet.bytes, CABINETS, counts.s - 1, 0);
+    size_t parent = field_at(call->sheet.bytes, CABINETS, entry >> r, 0);
+    size_t set = entry % ((size_t)1 << r);
 
-    return call->costs[(parent << counts.r) + set] == NO_WAY;
+    return set != 0 && call->choices[entry] == 0 && call->costs[entry] == NO_WAY
+           && call->costs[(parent << r) + set] != NO_WAY;
 }
 
 static void keep_stays_unplaced(struct plan *call)
 {
     struct counts counts = counts_of(call->sheet);
-    size_t set;
+    size_t row = (size_t)1 << counts.r;
+    size_t i;
 
     real_keep(call);
-    for (set = 1; set < (size_t)1 << counts.r && was_taken(call) && counts.s > 1; set++)
-        if (has_no_way(call, counts, set))
-            call->choices[((counts.s - 1) << counts.r) + set] = (uint16_t)set;
+    for (i = row; i < counts.entries && was_taken(call); i++)
+        if (has_late_way(call, counts.r, i))
+            call->choices[i] = (uint16_t)(i % row);
 }
 
 static void keep_leaves_unplaced(struct plan *call)
 {
     const struct held *held = hold(call);
-    struct counts counts = held->counts;
-    size_t set;
+    size_t row = (size_t)1 << held->counts.r;
+    size_t i;
 
     real_keep(call);
-    for (set = 1; set < (size_t)1 << counts.r && was_taken(call) && counts.s > 1; set++)
-        if (has_no_way(call, counts, set)) {
-            size_t at = ((counts.s - 1) << counts.r) + set;
-            call->choices[at] = held->tables.choices[at] & (uint16_t)set;
-        }
+    for (i = row; i < held->counts.entries && was_taken(call); i++)
+        if (has_late_way(call, held->counts.r, i))
+            call->choices[i] = held->tables.choices[i] & (uint16_t)(i % row);
 }
 
 static void keep_what_goes(struct plan *call)
@@ -244,8 +246,8 @@ const struct fault keep_faults[] = {
     {.what = "gz_keep keeps the count in the row of the root", .keep = keep_root_choices},
     {.what = "gz_keep keeps another figure where there is no way", .keep = keep_other_none},
     {.what = "gz_keep keeps the last cabinet's costs with its link", .keep = keep_link_above},
-    {.what = "gz_keep keeps a choice where there is no way", .keep = keep_stays_unplaced},
-    {.what = "gz_keep leaves old choices where there is no way", .keep = keep_leaves_unplaced},
+    {.what = "gz_keep keeps a choice where there is no way yet", .keep = keep_stays_unplaced},
+    {.what = "gz_keep leaves choices where there is no way yet", .keep = keep_leaves_unplaced},
     {.what = "gz_keep keeps what goes in place of what stays", .keep = keep_what_goes},
     {.what = "gz_keep keeps a set dearer on the root", .keep = keep_dearer},
     {.what = "gz_keep answers 11 before 10", .keep = keep_tables_first},
