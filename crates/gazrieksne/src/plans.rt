@@ -12,7 +12,7 @@ use planner::Planned;
 use planner::SplitBound;
 
 // The refusal's number, 0 for none; group, cost and count are written.
-fn tell(answered: Planned, answer: &mut [u64; 3]) -> u64
+pub(crate) fn tell(answered: Planned, answer: &mut [u64; 3]) -> u64
     ensures refusal { λ r. ⌜ r ≡ number answered ⌝ }
     ensures answer { λ r. ⌜ now (answer .exit) ≡ plan-answer answered ⌝ }
 {
