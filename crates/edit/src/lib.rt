@@ -7,7 +7,7 @@ ghost use Rattle.sheet.specs.Limits.{max-services};
 ghost use Rattle.checker.specs.Check.{checked};
 ghost use Rattle.records.specs.Told.{told};
 ghost use Rattle.edit.specs.Edits.{called, Edits};
-ghost use Rattle.edit.specs.Inner.Parts.{Loaded, Parted, Reworks, handed, output-of};
+ghost use Rattle.edit.specs.Inner.Parts.{Loaded, Parted, Reworks, accepted-at, handed, output-of};
 use checker::Checked;
 use core::Kept;
 use planner::Planned;
@@ -36,6 +36,16 @@ fn copy_plan(output: &mut [u16], plan: &[u16])
     }
 }
 
+// Whether the check accepted a plan, and at just this cost.
+fn is_accepted_at(answer: Checked, cost: u64) -> bool
+    ensures { λ b. ⌜ b ≡ accepted-at answer cost ⌝ }
+{
+    let Checked::Accepted(found) = answer else {
+        return false;
+    };
+    found == cost
+}
+
 // Hands a plan of this cost out, if the check accepts it at just this cost; else the tables are not those of such a sheet.
 fn hand_out(sheet: &[u8], plan: &[u16], cost: u64, count: u64, output: &mut [u16]) -> Planned
     requires { ⌜ length (now output) ≡ length (now plan) ⌝ }
@@ -43,10 +53,7 @@ fn hand_out(sheet: &[u8], plan: &[u16], cost: u64, count: u64, output: &mut [u16
     ensures output { λ a. ⌜ now (output .exit) ≡ output-of a (now (plan .entry)) (now (output .entry)) ⌝ }
 {
     let answer = checker::check(sheet, plan);
-    let Checked::Accepted(found) = answer else {
-        return Planned::Refused(Refusal::PlanWriter(23), 0);
-    };
-    if found != cost {
+    if !is_accepted_at(answer, cost) {
         return Planned::Refused(Refusal::PlanWriter(23), 0);
     }
     copy_plan(output, plan);
@@ -76,7 +83,7 @@ fn rework(
         Kept::Plan { cost, count } => hand_out(sheet, &plan[..r], cost, count, output),
         Kept::NoPlan { count } => Planned::Refused(Refusal::Road(12), count),
         // Not reached: the records are a sheet's, and the memory is what they need.
-        Kept::Unfit => Planned::Refused(Refusal::PlanWriter(23), 0),
+        Kept::Unfit => Planned::Refused(Refusal::Lender(11), 0),
     }
 }
 

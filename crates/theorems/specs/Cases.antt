@@ -6,6 +6,7 @@ use mathlib.Core.List.{List, [], _∷_, _++_}
 use lib.Dec.{eqb}
 use lib.ListN.{length}
 use Rattle.finite.specs.Below.{_⇒_, all-below}
+use Rattle.subsets.specs.Figures.{limit}
 use Rattle.sheet.specs.Refusals.{refusal}
 use Rattle.sheet.specs.Reading.{reading, number}
 use Rattle.sheet.specs.Instance.{Instance, instance}
@@ -21,6 +22,8 @@ use Rattle.bill.specs.declared.Billed.{Billed}
 use Rattle.bill.specs.declared.Billed.the-variants as bill
 use Rattle.planner.specs.Answers as planner
 use Rattle.planner.specs.Answers.{entries, cost, planned}
+use Rattle.planner.specs.Lent.{used}
+use Rattle.planner.specs.Kept.{kept-costs, kept-choices}
 use Rattle.planner.specs.declared.Planned.{Planned}
 use Rattle.planner.specs.declared.Planned.the-variants as plans
 use Rattle.tidy.specs.Words.{from-words}
@@ -48,6 +51,8 @@ pub data Case : Type 0 where
   bills : List ℕ → List ℕ → Tariff → ℕ → Billed → Case
   -- the lines of that bill
   lines : List ℕ → List ℕ → Tariff → List ℕ → Case
+  -- the keeping call, with memory that just suffices: it uses the tables, and this is what it leaves in the cost table and in the choice table
+  keeps : List ℕ → List ℕ → List ℕ → Case
 
 -- the planner's answer where the output has r places and each table s × 2^r entries
 abbrev pub answer-to : List ℕ → Planned
@@ -69,6 +74,11 @@ Holds (writes bytes written) = (planner.number (answer-to bytes) ≡ 0) × (plac
 Holds (tidies bytes copy) = (tidy-answer bytes (length copy) ≡ Bytes (length copy)) × (tidied (instance bytes) ≡ copy)
 Holds (bills bytes written t n answer) = billed bytes written t n ≡ answer
 Holds (lines bytes written t expected) = places (line-count (instance bytes)) (line (instance bytes) (place written) t) ≡ expected
+Holds (keeps bytes costs choices) = (used (answer-to bytes) ≡ true) × (kept-costs (instance bytes) ≡ costs) × (kept-choices (instance bytes) ≡ choices)
+
+-- the figure of a set that cannot be placed: 10^15 + 1
+abbrev pub no-way : ℕ
+no-way = limit + 1
 
 -- a tariff of this block price, slot price and tax rate
 abbrev pub tariff : ℕ → ℕ → ℕ → Tariff
@@ -235,4 +245,8 @@ cases =
     ∷ bills road-m (0 ∷ 1 ∷ []) (tariff 250 30 50) 5 (bill.Refused (refusal 22))
     ∷ bills road-m (2 ∷ 0 ∷ []) (tariff 10001 0 0) 0 (bill.Refused (refusal 16))
     ∷ bills (m-with 68 []) (0 ∷ 1 ∷ []) (tariff 10001 0 0) 0 (bill.Refused (refusal 18))
+    -- 02 (g): what tables kept of M hold, of M with no room at its root, and of the road without a plan; the counts of the joins sum to 18, 12 and 10
+    ∷ keeps road-m (0 ∷ 8 ∷ 5 ∷ 15 ∷ 0 ∷ 2 ∷ 2 ∷ no-way ∷ 0 ∷ 4 ∷ 4 ∷ no-way ∷ []) (0 ∷ 0 ∷ 0 ∷ 0 ∷ 9 ∷ 0 ∷ 0 ∷ 1 ∷ 9 ∷ 1 ∷ 2 ∷ 3 ∷ [])
+    ∷ keeps (road 0 6) (0 ∷ 8 ∷ 5 ∷ 15 ∷ 0 ∷ 2 ∷ 2 ∷ no-way ∷ 0 ∷ 4 ∷ 4 ∷ no-way ∷ []) (0 ∷ 0 ∷ 0 ∷ 0 ∷ 4 ∷ 0 ∷ 0 ∷ 0 ∷ 8 ∷ 1 ∷ 2 ∷ 1 ∷ [])
+    ∷ keeps (road 0 4) (0 ∷ no-way ∷ 5 ∷ no-way ∷ 0 ∷ 2 ∷ 2 ∷ no-way ∷ 0 ∷ 4 ∷ 4 ∷ no-way ∷ []) (0 ∷ 0 ∷ 0 ∷ 0 ∷ 4 ∷ 0 ∷ 0 ∷ 0 ∷ 6 ∷ 0 ∷ 2 ∷ 0 ∷ [])
     ∷ []

@@ -3,7 +3,7 @@
 use Prim.Native.Nat.{ℕ, _^_, _<_}
 use mathlib.Core.Logic.{_⊎_}
 use mathlib.Core.Path.{_≡_}
-use mathlib.Core.Bool.{false, cond}
+use mathlib.Core.Bool.{Bool, false, cond}
 use mathlib.Core.List.{List}
 use lib.Dec.{eqb}
 use lib.ListN.{length}
@@ -34,10 +34,14 @@ pub record Loaded (bytes : List ℕ) (k : Records) : Type 0 where
   pub reads : reading bytes ≡ readings.Accepted sheet
   pub tells : told k ≡ instance bytes
 
+-- the check accepted a plan, and at this cost
+abbrev pub accepted-at : Checked → ℕ → Bool
+accepted-at (checks.Accepted m) k = eqb m k
+accepted-at (checks.Refused f) k = false
+
 -- what becomes of a plan that the tables give at a cost, by what the check says of it: it is handed out at that cost alone
 abbrev pub handed : Checked → ℕ → ℕ → Planned
-handed (checks.Accepted m) k n = cond (eqb m k) (Plan k n) (Refused (refusal 23) 0)
-handed (checks.Refused f) k n = Refused (refusal 23) 0
+handed r k n = cond (accepted-at r k) (Plan k n) (Refused (refusal 23) 0)
 
 -- the output: the plan where it is handed out
 abbrev pub output-of : Planned → List ℕ → List ℕ → List ℕ
