@@ -7,7 +7,7 @@ ghost use lib.ListN.{length, getD};
 ghost use Rattle.sheet.specs.Limits.{max-services};
 ghost use Rattle.subsets.specs.Inner.Masks.{full};
 ghost use Rattle.subsets.specs.Inner.Count.{weighed};
-ghost use Rattle.core.specs.Tables.{netted, fitting, updatable, decided, read-answer, least, PlacedBy, OutputOf, Filled, Keeps, Solves, Updates};
+ghost use Rattle.core.specs.Tables.{netted, fitting, decided, read-answer, least, PlacedBy, OutputOf, Filled, Keeps, Solves, Updates};
 use records::Records;
 use rows::SUMS;
 
@@ -18,7 +18,7 @@ mod tables; // tables.rt: both tables filled and cleared, and the counts in them
 
 use back::read_places;
 use sound::is_sound;
-use sums::sums_below;
+use sums::sum_sets;
 use tables::clear_choices;
 use tables::clear_costs;
 use tables::count_joins;
@@ -30,11 +30,6 @@ pub enum Kept {
     Plan { cost: u64, count: u64 },
     NoPlan { count: u64 },
     Unfit,
-}
-
-// Sums over all sets of services, row by row.
-pub(crate) struct SetSums {
-    pub(crate) of: [u32; SUMS],
 }
 
 // A number of 16 bits, wider.
@@ -99,24 +94,6 @@ fn keep_fitting(
     decide(records, output, &costs[..], &choices[..], count)
 }
 
-// Rebuilds the rows of both tables from cabinet e up to the root, and decides.
-fn update_fitting(
-    records: Records,
-    e: usize,
-    output: &mut [u16],
-    costs: &mut [u64],
-    choices: &mut [u16],
-) -> Kept
-    requires { ⌜ updatable records e (length (now output)) (length (now costs)) (length (now choices)) ≡ true ⌝ }
-    ensures { λ a. ⌜ Updates records e (now (output .entry)) (now (output .exit)) (now (costs .entry)) (now (costs .exit)) (now (choices .entry)) (now (choices .exit)) a ⌝ }
-{
-    let size = sets_of(records.services);
-    let sums = sums_below(records, size);
-    rows::rebuild_path(costs, choices, records, &sums.of, e);
-    let count = count_joins(&choices[..], records.cabinets, size);
-    decide(records, output, &costs[..], &choices[..], count)
-}
-
 // Plans, and keeps both tables filled.
 pub fn keep(records: Records, output: &mut [u16], costs: &mut [u64], choices: &mut [u16]) -> Kept
     ensures { λ a. ⌜ Keeps records (now (output .entry)) (now (output .exit)) (now (costs .entry)) (now (costs .exit)) (now (choices .entry)) (now (choices .exit)) a ⌝ }
@@ -142,7 +119,8 @@ pub fn solve(records: Records, output: &mut [u16], costs: &mut [u64], choices: &
     }
 }
 
-// Updates tables that are kept of records which differ in cabinet e alone, and plans. The tables may hold anything.
+// Updates tables that are kept of records which differ in cabinet e alone, and plans: their rows are rebuilt from e up to the root. The tables may
+// hold anything.
 pub fn update(
     records: Records,
     e: usize,
@@ -155,9 +133,13 @@ pub fn update(
     if records.cabinets <= e {
         return Kept::Unfit;
     }
-    if fits(records, output.len(), costs.len(), choices.len()) {
-        update_fitting(records, e, output, costs, choices)
-    } else {
-        Kept::Unfit
+    if !fits(records, output.len(), costs.len(), choices.len()) {
+        return Kept::Unfit;
     }
+    let size = sets_of(records.services);
+    let mut sums = [0u32; SUMS];
+    sum_sets(&mut sums, records, size);
+    rows::rebuild_path(costs, choices, records, &sums, e);
+    let count = count_joins(&choices[..], records.cabinets, size);
+    decide(records, output, &costs[..], &choices[..], count)
 }

@@ -8,7 +8,6 @@ ghost use Rattle.sheet.specs.Limits.{max-services, max-streams};
 ghost use Rattle.rows.specs.Charges.{max-sets, all-sums, into-row};
 ghost use Rattle.subsets.specs.Sets.{has};
 ghost use Rattle.core.specs.Sums.{demand-in, flow-out, put, SumsOf};
-use crate::SetSums;
 use crate::index;
 use records::Records;
 use records::flows::Flow;
@@ -16,7 +15,6 @@ use records::flows::frames_of;
 use rows::INTO;
 use rows::OUT;
 use rows::SETS;
-use rows::SUMS;
 use sheet::Sheet;
 use subsets::member;
 
@@ -90,21 +88,19 @@ fn put_flow(of: &mut [u32], row: usize, x: usize, flow: Flow)
 }
 
 // The sums of all sets below size.
-pub(crate) fn sums_below(records: Records, size: usize) -> SetSums
-    requires { ⌜ (size ≤ max-sets) × (records .services ≤ max-services) × (records .streams ≤ max-streams) ⌝ }
-    ensures { λ s. ⌜ SumsOf records size (s .of) ⌝ }
+pub(crate) fn sum_sets(of: &mut [u32], records: Records, size: usize)
+    requires { ⌜ (size ≤ max-sets) × (records .services ≤ max-services) × (records .streams ≤ max-streams) × (length (now of) ≡ all-sums) ⌝ }
+    ensures { λ u. ⌜ SumsOf records size (now (of .exit)) ⌝ }
 {
     let r = records.services;
     let q = records.streams;
-    let mut of = [0u32; SUMS];
     let mut x = 0;
     while x < size {
         let out = flow_of(&records.from, &records.to, &records.load, q, x);
         let into = flow_of(&records.to, &records.from, &records.load, q, x);
         of[x] = demand_of(&records.demand, r, x);
-        put_flow(&mut of, OUT, x, out);
-        put_flow(&mut of, INTO, x, into);
+        put_flow(of, OUT, x, out);
+        put_flow(of, INTO, x, into);
         x += 1;
     }
-    SetSums { of: of }
 }

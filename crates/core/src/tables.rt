@@ -8,17 +8,19 @@ ghost use Rattle.sheet.specs.Limits.{max-cabinets};
 ghost use Rattle.rows.specs.Rebuilds.{entry};
 ghost use Rattle.core.specs.Tables.{Ready, Filled};
 use crate::index;
-use crate::sums::sums_below;
+use crate::sums::sum_sets;
 use records::Records;
+use rows::SUMS;
 
 // Fills both tables, the root's choices with 0, since it is no child. Gives the splits counted.
 pub(crate) fn fill(costs: &mut [u64], choices: &mut [u16], records: Records, size: usize) -> u64
     requires { ⌜ Ready records size (now costs) (now choices) ⌝ }
     ensures { λ n. ⌜ Filled records (now (costs .exit)) (now (choices .exit)) n ⌝ }
 {
-    let sums = sums_below(records, size);
+    let mut sums = [0u32; SUMS];
+    sum_sets(&mut sums, records, size);
     clear_choices(&mut choices[..size]);
-    rows::fill(costs, choices, records, &sums.of)
+    rows::fill(costs, choices, records, &sums)
 }
 
 // The sum of the counts of all joins: each stands in the row of its child as the choice of the empty set.

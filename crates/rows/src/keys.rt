@@ -10,18 +10,12 @@ ghost use Rattle.rows.specs.Keys.{base, low-digits, key-in, service-weig
 ghost use Rattle.rows.specs.Reads.{Weighted, Readable, Started};
 ghost use Rattle.rows.specs.Rebuilds.{entry};
 use crate::LOW_DIGITS;
-use crate::SETS;
 use crate::charges::wide;
 use crate::index;
 use sheet::Sheet;
 use subsets::Key;
 use subsets::member;
 use subsets::only_if;
-
-// The weights of all sets of services, two places a set.
-pub(crate) struct Weights {
-    pub(crate) of: [u32; 2 * SETS],
-}
 
 // A cabinet's number in 64 bits.
 fn number(p: usize) -> u64
@@ -83,20 +77,18 @@ fn weight_in(r: usize, x: usize) -> Key
     }
 }
 
-// The weights of all sets below size.
-pub(crate) fn weights_of(r: usize, size: usize) -> Weights
-    requires { ⌜ (r ≤ max-services) × (size ≤ max-sets) ⌝ }
-    ensures { λ w. ⌜ Weighted r size (w .of) ⌝ }
+// The weights of all sets below size, two places a set.
+pub(crate) fn weigh_sets(weights: &mut [u32], r: usize, size: usize)
+    requires { ⌜ (r ≤ max-services) × (size ≤ max-sets) × (2 * size ≤ length (now weights)) ⌝ }
+    ensures { λ u. ⌜ Weighted r size (now (weights .exit)) ⌝ }
 {
-    let mut of = [0u32; 2 * SETS];
     let mut x = 0;
     while x < size {
         let weight = weight_in(r, x);
-        of[2 * x] = weight.high as u32;
-        of[2 * x + 1] = weight.low as u32;
+        weights[2 * x] = weight.high as u32;
+        weights[2 * x + 1] = weight.low as u32;
         x += 1;
     }
-    Weights { of: of }
 }
 
 // The keys of cabinet p alone: each set's weight, p times over.

@@ -21,7 +21,7 @@ use charges::fill_own;
 use children::children_of;
 use keys::own_keys;
 use keys::read_key;
-use keys::weights_of;
+use keys::weigh_sets;
 use path::climb;
 use tables::fetch_keys;
 use tables::join_child;
@@ -193,7 +193,8 @@ fn fill_rows<'a>(
     requires { ⌜ FillRoom records size (now costs) (now choices) (now sums) (now last) (now prior) ⌝ }
     ensures { λ n. ⌜ Fills records size (now (sums .entry)) (now (costs .entry)) (now (costs .exit)) (now (choices .entry)) (now (choices .exit)) n ⌝ }
 {
-    let weights = weights_of(records.services, size);
+    let mut weights = [0u32; 2 * SETS];
+    weigh_sets(&mut weights, records.services, size);
     let rows = 2 * SETS / size;
     let mut keys = [0u64; KEYS];
     let mut child = [0u64; SETS];
@@ -212,7 +213,7 @@ fn fill_rows<'a>(
             &mut child_keys,
             records,
             sums,
-            &weights.of,
+            &weights,
             last,
             prior,
             size,
@@ -301,13 +302,14 @@ pub fn root_key(records: Records, choices: &[u16]) -> Key
         return Key { high: 0, low: 0 };
     }
     let size = sets_of(records.services);
-    let weights = weights_of(records.services, size);
+    let mut weights = [0u32; 2 * SETS];
+    weigh_sets(&mut weights, records.services, size);
     let child = index(children.last[0]);
     read_key(
         choices,
         &children.last,
         &children.prior,
-        &weights.of,
+        &weights,
         size,
         0,
         child,

@@ -8,7 +8,7 @@ ghost use Rattle.rows.specs.Paths.{Climbs};
 use crate::KEYS;
 use crate::SETS;
 use crate::index;
-use crate::keys::weights_of;
+use crate::keys::weigh_sets;
 use crate::rebuild;
 use records::Records;
 use sheet::Sheet;
@@ -43,7 +43,8 @@ pub(crate) fn climb<'a>(
     requires cabinet { ⌜ e < records .cabinets ⌝ }
     ensures { λ u. ⌜ Climbs records size e (now (sums .entry)) (now (costs .entry)) (now (costs .exit)) (now (choices .entry)) (now (choices .exit)) ⌝ }
 {
-    let weights = weights_of(records.services, size);
+    let mut weights = [0u32; 2 * SETS];
+    weigh_sets(&mut weights, records.services, size);
     let mut keys = [0u64; KEYS];
     let mut child = [0u64; SETS];
     let mut link = [0u64; SETS];
@@ -60,7 +61,7 @@ pub(crate) fn climb<'a>(
             &mut child_keys,
             records,
             sums,
-            &weights.of,
+            &weights,
             last,
             prior,
             size,
