@@ -203,17 +203,6 @@ module _ (k : Records) (size : ℕ) (sums : List ℕ) (falls : Falls (parent-of 
           key-is _ _ (B .keys .rest (d % rows) (2 * x) apart (omega arith)) (B .keys .rest (d % rows) (2 * x + 1) apart (omega arith))
           ∙ F .keys d x (omega arith) i (omega arith) h ∙ key-stays p (p % rows) t₁ t₂ u₁ u₂ g₁ g₂ n (F .within) B d x (omega arith) h
 
-  -- the count is small enough for the code
-  pub from-small : (rows p : ℕ) (t t₁ u u₁ g : List ℕ) (m : ℕ) → k .cabinets ≤ max-cabinets → size ≤ max-sets → From k size sums rows p t t₁ u u₁ g m → m < 2 ^ 64
-  from-small rows p t t₁ u u₁ g m few l F =
-      omega (
-        arith,
-        F .count,
-        sum-le (k .cabinets) (200 * 1048576) (λ d. only (leb p d) (row-count k size sums t₁ u₁ d))
-            (λ d i. omega (arith, only-le (leb p d) (row-count k size sums t₁ u₁ d), count-le (source k size d sums t₁ u₁) size (k .cabinets) l few)),
-        mul-le-mul-right {m = k .cabinets} {n = max-cabinets} (200 * 1048576) few,
-      )
-
   -- all rows are built
   pub from-all : (rows : ℕ) (t t₁ u u₁ g : List ℕ) (m : ℕ) → From k size sums rows 0 t t₁ u u₁ g m → Fills k size sums t t₁ u u₁ m
   unfolding only

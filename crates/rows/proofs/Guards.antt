@@ -12,6 +12,7 @@ use lib.Pow.{pow-pos}
 use borrow.Author.Tests.{leb-true, ltb-true}
 use Rattle.finite.specs.Below.{only}
 use Rattle.finite.proofs.Booleans.{clash, both-l, both-r, either}
+use Rattle.finite.proofs.Sums.{sum-zero}
 use Rattle.finite.proofs.Tests.{all-at}
 use Rattle.subsets.specs.Inner.Keys.{key-parts}
 use Rattle.subsets.specs.declared.Key.{Key}
@@ -77,6 +78,15 @@ module _ (k : Records) (sums t u : List ℕ) where
   -- a test failed
   pub left-alone : (fillable k (length sums) (length t) (length u) ≡ true → ⊥) → FillsRows k sums t t u u 0
   left-alone n = record { done = λ e. absurd (n e); left = λ e. (refl, refl, refl) }
+
+  -- there is no row to fill
+  pub no-rows : k .cabinets < 1 → Fills k (2 ^ k .services) sums t t u u 0
+  no-rows h = record {
+    rows = λ p l. absurd (omega arith);
+    root = λ x l. refl;
+    past = λ d x l i. (refl, refl);
+    count = sym (sum-zero (k .cabinets) _ (λ d l. absurd (omega arith)));
+  }
 
   -- none failed
   pub filled : {size : ℕ} {t₁ u₁ : List ℕ} {m : ℕ} → size ≡ 2 ^ k .services → fillable k (length sums) (length t) (length u) ≡ true

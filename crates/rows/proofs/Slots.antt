@@ -45,13 +45,14 @@ slot-apart rows p d z h l e = apart (d / rows) (p / rows) (div-add-mod' d rows) 
         go (yes m) = omega (arith, f, g, e, mul-le-mul-right {m = suc b} {n = a} rows m)
         go (no m) = omega (arith, f, g, e, mul-le-mul-right {m = a} {n = b} rows (let y : a ≤ b = omega arith in y))
 
--- as many rows as fit are some
-pub rows-kept : (size : ℕ) → 0 < size → size ≤ max-sets → (0 < key-places / size) × (key-places / size * (2 * size) ≤ kept-places)
+-- as many rows as fit are two at least
+pub rows-kept : (size : ℕ) → 0 < size → size ≤ max-sets → (2 ≤ key-places / size) × (key-places / size * (2 * size) ≤ kept-places)
 rows-kept size z h = go (key-places / size) (div-add-mod' key-places size) (mod-lt key-places z)
   where
-    go : (rows : ℕ) → rows * size + key-places % size ≡ key-places → key-places % size < size → (0 < rows) × (rows * (2 * size) ≤ kept-places)
+    go : (rows : ℕ) → rows * size + key-places % size ≡ key-places → key-places % size < size → (2 ≤ rows) × (rows * (2 * size) ≤ kept-places)
     go zero e l = absurd (omega arith)
-    go (suc n) e l = (omega arith, omega (arith, let two : suc n * (2 * size) ≡ 2 * (suc n * size) = omega arith in two))
+    go (suc zero) e l = absurd (omega arith)
+    go (suc (suc n)) e l = (omega arith, omega (arith, let two : suc (suc n) * (2 * size) ≡ 2 * (suc (suc n) * size) = omega arith in two))
 
 module _ (size q : ℕ) (g : List ℕ) (fits : q * (2 * size) + 2 * size ≤ length g) where
   -- a row lent has the keys of the table

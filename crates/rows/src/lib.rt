@@ -1,11 +1,12 @@
 // The rows of the planner's two tables rebuilt: each its own charges, then its children joined. For any records and tables.
 ghost use mathlib.Core.Path.{_≡_};
-ghost use Prim.Native.Nat.{_%_, _^_, _≤_, _<_};
+ghost use mathlib.Core.Bool.{true};
+ghost use Prim.Native.Nat.{_+_, _%_, _^_, _≤_, _<_};
 ghost use Rattle.sheet.specs.Limits.{max-services};
 ghost use Rattle.rows.specs.Keys.{tree};
 ghost use Rattle.rows.specs.Reads.{Readable};
-ghost use Rattle.rows.specs.Rebuilds.{source, has-rows, RebuildRoom, Scratch, KeysKept, Rebuilds, FillRoom, Fills, FillsRows, RootKey};
-ghost use Rattle.rows.specs.Paths.{ClimbsRows};
+ghost use Rattle.rows.specs.Rebuilds.{source, has-rows, RebuildRoom, Scratch, KeysKept, Rebuilds, FillRoom, FillsRows, RootKey};
+ghost use Rattle.rows.specs.Paths.{next-row, rows-near, RebuildsRows, ClimbsRows};
 use records::Records;
 use sheet::Sheet;
 use subsets::Key;
@@ -14,7 +15,6 @@ mod charges; // charges.rt: what a cabinet and a link charge for every set of se
 mod children; // children.rt: the children of each cabinet as lists
 mod joins; // joins.rt: a child's row joined into its parent's
 mod keys; // keys.rt: keys of placings, by which ties are settled
-mod path; // path.rt: the rows from a cabinet up to the root
 mod tables; // tables.rt: one row of both tables
 
 use charges::fill_own;
@@ -22,7 +22,6 @@ use children::children_of;
 use keys::own_keys;
 use keys::read_key;
 use keys::weigh_sets;
-use path::climb;
 use tables::fetch_keys;
 use tables::join_child;
 
@@ -180,8 +179,35 @@ fn rebuild<'a>(
     count
 }
 
-// Rebuilds all rows, from the last cabinet to the first. Gives the splits counted.
-fn fill_rows<'a>(
+// The row that is rebuilt after that of q, which is not the root: that before it where the whole table is rebuilt, else its parent's.
+fn next_row(whole: bool, parent: usize, q: usize) -> usize
+    requires { ⌜ 0 < q ⌝ }
+    ensures { λ p. ⌜ p ≡ next-row whole parent q ⌝ }
+{
+    if whole {
+        return q - 1;
+    }
+    parent
+}
+
+// So many rows from p on have their keys kept, where `rows` rows of keys are kept and that of q was rebuilt last: all of them where the whole table is
+// rebuilt; else those of p and q where q is next to p, as on a chain, and of p alone where it is not.
+fn rows_near(whole: bool, rows: usize, p: usize, q: usize) -> usize
+    requires { ⌜ p < q ⌝ }
+    ensures { λ n. ⌜ n ≡ rows-near whole rows p q ⌝ }
+{
+    if whole {
+        return rows;
+    }
+    if q == p + 1 {
+        return 2;
+    }
+    1
+}
+
+// Rebuilds the row of `first`, and after it those before it, down to the root's: all of them, or its parent's, the parent's of that, and so on. Gives
+// the splits counted.
+fn rebuild_rows<'a>(
     costs: &mut [u64],
     choices: &mut [u16],
     records: Records,
@@ -189,9 +215,12 @@ fn fill_rows<'a>(
     last: &'a [u16; Sheet::MAX_CABINETS],
     prior: &'a [u16; Sheet::MAX_CABINETS],
     size: usize,
+    first: usize,
+    whole: bool,
 ) -> u64
-    requires { ⌜ FillRoom records size (now costs) (now choices) (now sums) (now last) (now prior) ⌝ }
-    ensures { λ n. ⌜ Fills records size (now (sums .entry)) (now (costs .entry)) (now (costs .exit)) (now (choices .entry)) (now (choices .exit)) n ⌝ }
+    requires room { ⌜ FillRoom records size (now costs) (now choices) (now sums) (now last) (now prior) ⌝ }
+    requires cabinet { ⌜ (first < records .cabinets) × (whole ≡ true → first + 1 ≡ records .cabinets) ⌝ }
+    ensures { λ n. ⌜ RebuildsRows whole records size first (now (sums .entry)) (now (costs .entry)) (now (costs .exit)) (now (choices .entry)) (now (choices .exit)) n ⌝ }
 {
     let mut weights = [0u32; 2 * SETS];
     weigh_sets(&mut weights, records.services, size);
@@ -200,10 +229,10 @@ fn fill_rows<'a>(
     let mut child = [0u64; SETS];
     let mut link = [0u64; SETS];
     let mut child_keys = [0u64; 2 * SETS];
+    let mut near = 1;
     let mut count: u64 = 0;
-    let mut p = records.cabinets;
-    while 0 < p {
-        p -= 1;
+    let mut q = first;
+    loop {
         count += rebuild(
             costs,
             choices,
@@ -218,9 +247,15 @@ fn fill_rows<'a>(
             prior,
             size,
             rows,
-            rows,
-            p,
+            near,
+            q,
         );
+        if q == 0 {
+            break;
+        }
+        let p = next_row(whole, index(records.parent[q]), q);
+        near = rows_near(whole, rows, p, q);
+        q = p;
     }
     count
 }
@@ -238,8 +273,11 @@ pub fn fill(costs: &mut [u64], choices: &mut [u16], records: Records, sums: &[u3
     if !children.is_tree {
         return 0;
     }
+    if n < 1 {
+        return 0;
+    }
     let size = sets_of(records.services);
-    fill_rows(
+    rebuild_rows(
         costs,
         choices,
         records,
@@ -247,6 +285,8 @@ pub fn fill(costs: &mut [u64], choices: &mut [u16], records: Records, sums: &[u3
         &children.last,
         &children.prior,
         size,
+        n - 1,
+        true,
     )
 }
 
@@ -273,7 +313,7 @@ pub fn rebuild_path(
         return;
     }
     let size = sets_of(records.services);
-    climb(
+    rebuild_rows(
         costs,
         choices,
         records,
@@ -282,7 +322,8 @@ pub fn rebuild_path(
         &children.prior,
         size,
         e,
-    )
+        false,
+    );
 }
 
 // The key of the placing of all services on the whole tree, as the choices name it. Gives 0 where there is no cabinet, no tree or no room.

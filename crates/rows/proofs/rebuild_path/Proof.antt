@@ -7,7 +7,7 @@ use lib.ListN.{length, getD, set, length-set}
 use mathlib.Core.Bool.{Bool, true, false, not, _&&_}
 use lib.Dec.{ltb}
 use borrow.Author.Tests.{ltb-true, lt-ltb}
-use Rattle.finite.proofs.Booleans.{both, both-l, both-r}
+use Rattle.finite.proofs.Booleans.{clash, both, both-l, both-r}
 use Rattle.rows.specs.Cabinets.{falling}
 use Rattle.rows.specs.Rebuilds.{has-rows, fillable}
 use Rattle.rows.proofs.Guards.{held, failed, Passed, passed, in-room}
@@ -46,10 +46,10 @@ returns-3 c =
 sets-of-requires : tie.Need-sets-of-requires
 sets-of-requires c κs = roomy ((c .before .before .before .before)) .services
 
-climb-requires : tie.Need-climb-requires
-climb-requires c κs =
+rebuild-rows-requires : tie.Need-rebuild-rows-requires
+rebuild-rows-requires c κs =
     let a = c .before .before .before .before .before .before .before .before .before .before .before .before .before .before .before .before .args in
-    (in-room (a .t3) (a .sums .now) (a .costs .now) (a .choices .now) (c .before .before .before .before .before .sets-of .ensures) (roomy ((c .before .before .before .before .before .before .before .before .before .before))) (c .before .before .before .before .before .before .before .children-of .ensures) (held _ (c .before .before .before .before .before .before .if3 .left)), c .before .before .before .before .before .before .before .before .before .before .before .before .if1 .left)
+    (in-room (a .t3) (a .sums .now) (a .costs .now) (a .choices .now) (c .before .before .before .before .before .sets-of .ensures) (roomy ((c .before .before .before .before .before .before .before .before .before .before))) (c .before .before .before .before .before .before .before .children-of .ensures) (held _ (c .before .before .before .before .before .before .if3 .left)), (c .before .before .before .before .before .before .before .before .before .before .before .before .if1 .left, λ w. clash (sym w)))
 
 same-length : tie.Need-same-length
 same-length c = search needs
@@ -62,7 +62,7 @@ returns-4 c =
     let a = c .before .before .before .before .before .before .before .before .before .before .before .before .before .before .before .before .before .before .before .before .before .args in
     climbed (a .t3) (a .e) (a .sums .now) (a .costs .now) (a .choices .now) (c .before .before .before .before .before .before .before .before .before .before .sets-of .ensures)
     (both (ltb (a .e) (a .t3 .cabinets)) _ (lt-ltb (a .e) (a .t3 .cabinets) (c .before .before .before .before .before .before .before .before .before .before .before .before .before .before .before .before .before .if1 .left)) (both (has-rows (a .t3 .services) (a .t3 .cabinets) (length (a .sums .now)) (length (a .costs .now)) (length (a .choices .now))) _
-    (sym (c .before .before .before .before .before .before .before .before .before .before .before .before .before .before .before .before .are-rows .ensures) ∙ held _ (c .before .before .before .before .before .before .before .before .before .before .before .before .before .before .before .if2 .left)) (sym (c .before .before .before .before .before .before .before .before .before .before .before .before .children-of .ensures .tested) ∙ held _ (c .before .before .before .before .before .before .before .before .before .before .before .if3 .left)))) (c .before .before .before .before .climb .ensures)
+    (sym (c .before .before .before .before .before .before .before .before .before .before .before .before .before .before .before .before .are-rows .ensures) ∙ held _ (c .before .before .before .before .before .before .before .before .before .before .before .before .before .before .before .if2 .left)) (sym (c .before .before .before .before .before .before .before .before .before .before .before .before .children-of .ensures .tested) ∙ held _ (c .before .before .before .before .before .before .before .before .before .before .before .if3 .left)))) (c .before .before .before .before .rebuild-rows .ensures .path refl)
 
 pub rebuild-path-spec : {M : Type 1} → statement M
 rebuild-path-spec =
@@ -74,7 +74,7 @@ rebuild-path-spec =
     children-of-requires
     returns-3
     sets-of-requires
-    climb-requires
+    rebuild-rows-requires
     same-length
     same-length-2
     returns-4)
