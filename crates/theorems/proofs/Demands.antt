@@ -13,8 +13,8 @@
 --                                                                               crates/bill/src/lib.rt
 --   `Edits`                                 what `edit::edit` answers, and what output and tables hold after it: a relation, as tables from elsewhere leave
 --                                           some of it free                     crates/edit/src/lib.rt
--- and the C entry points `gz_read`, `gz_check`, `gz_plan`, `gz_tidy` and `gz_bill` have the same clauses in crates/gazrieksne/src. What the program prints is
--- `printed` in crates/report/specs/Text.antt, by the contract of `report::respond`.
+-- and the C entry points `gz_read`, `gz_check`, `gz_plan`, `gz_keep`, `gz_edit`, `gz_tidy` and `gz_bill` have the same clauses in crates/gazrieksne/src. What the program
+-- prints is `printed` in crates/report/specs/Text.antt, by the contract of `report::respond`.
 use Prim.Native.Nat.{ℕ, _+_, _-_, _*_, _^_, _≤_, _<_}
 use mathlib.Core.Logic.{_↔_, _⊎_, inl, inr}
 use mathlib.Core.Path.{_≡_, refl, ap, _∙_}
@@ -58,7 +58,7 @@ use Rattle.planner.specs.Kept.{kept-costs, kept-choices}
 use Rattle.planner.specs.declared.Planned.{Planned}
 use Rattle.planner.specs.declared.Planned.the-variants.{Plan, Refused}
 use Rattle.planner.proofs.Order.{plan-first, plan-order}
-use Rattle.edit.specs.Edits.{Call, rules-before, edit-numbers, edited, number-before, Edits}
+use Rattle.edit.specs.Edits.{called, Call, rules-before, edit-numbers, edited, number-before, Edits}
 use Rattle.edit.specs.Lists.{InTheRule, AllFresh}
 use Rattle.bill.specs.Tariff.{within-limits}
 use Rattle.bill.specs.Lines.{started, tax-on, line-count, line, net, tax, total}
@@ -427,17 +427,7 @@ edits-fresh bytes costs choices costs' choices' output a e t u h = editing.after
 pub edit-possible :
     (sheet : List ℕ) (e : ℕ) (output costs choices : List ℕ) →
     (a : Planned) × (output' : List ℕ) × (costs' : List ℕ) × (choices' : List ℕ)
-    × Edits (record {
-      sheet = sheet;
-      cabinet = e;
-      output = output;
-      costs = costs;
-      choices = choices;
-      answer = a;
-      output' = output';
-      costs' = costs';
-      choices' = choices';
-    })
+    × Edits (called sheet e output costs choices a output' costs' choices')
 edit-possible = editing.some-outcome
 
 -- Any bytes, any number and any tables, with any memory lent, get a plan or one refusal, from 1 to 12, 14, 18, 19 or 23; it stands in the group of its
