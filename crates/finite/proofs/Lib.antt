@@ -1,5 +1,6 @@
--- The laws of sums and tests below a number, of Booleans, and of lists whose front is written over.
+-- The laws of sums and tests below a number, of Booleans, and of lists whose front or middle is written over.
 pub mod Booleans
 pub mod Fronts
+pub mod Middles
 pub mod Sums
 pub mod Tests

@@ -11,6 +11,7 @@ use lib.ListN.{length, getD, take, drop, set, replicate, length-drop, length-rep
 use lib.Seq.{getD-append-add, getD-take, getD-drop, getD-set-same, getD-set-other, length-take-le}
 use borrow.Rule.Slice.PartMut.{putMid, same-len-mid}
 use borrow.Author.Tests.{eqb-true, eqb-false, ltb-true, ltb-false}
+use Rattle.finite.proofs.Middles.{mid-before, mid-inside, mid-after}
 use Rattle.rows.specs.Rebuilds.{entry, RowSet}
 
 -- ---- rows one after the other
@@ -23,34 +24,12 @@ row-before size {p} {c} h = omega (arith, mul-le-mul-right {m = p + 1} {n = c} s
 pub row-within : (size s : ℕ) {p : ℕ} → p < s → p * size + size ≤ s * size
 row-within size s h = row-before size h
 
--- ---- a list whose middle part was put back
-
 lt-or-ge : (i m : ℕ) → (i < m) ⊎ (m ≤ i)
 lt-or-ge i m = go (ltb i m) refl
   where
     go : (b : Bool) → ltb i m ≡ b → (i < m) ⊎ (m ≤ i)
     go true e = inl (ltb-true i m e)
     go false e = inr (ltb-false i m e)
-
-module _ (a k : ℕ) (xs ys : List ℕ) (fits : a + k ≤ length xs) (same : length ys ≡ k) where
-  first : length (take a xs) ≡ a
-  first = length-take-le a xs (omega arith)
-
-  mid-before : (i : ℕ) → i < a → getD (putMid a k xs ys) i 0 ≡ getD xs i 0
-  mid-before i h = List·getD-append (take a xs) _ 0 i (omega (arith, first)) ∙ getD-take a xs i 0 h
-
-  shifted : (i : ℕ) → getD (putMid a k xs ys) (a + i) 0 ≡ getD (ys ++ drop k (drop a xs)) i 0
-  shifted i = ap (λ (n : ℕ). getD (putMid a k xs ys) (n + i) 0) (sym first) ∙ getD-append-add (take a xs) (ys ++ drop k (drop a xs)) i 0
-
-  mid-inside : (i : ℕ) → i < k → getD (putMid a k xs ys) (a + i) 0 ≡ getD ys i 0
-  mid-inside i h = shifted i ∙ List·getD-append ys (drop k (drop a xs)) 0 i (omega arith)
-
-  mid-after : (i : ℕ) → a + k ≤ i → getD (putMid a k xs ys) i 0 ≡ getD xs i 0
-  mid-after i h =
-      let j : ℕ = i - (a + k) in
-      let e : i ≡ a + (length ys + j) = omega arith in
-      ap (λ (n : ℕ). getD (putMid a k xs ys) n 0) e ∙ shifted (length ys + j) ∙ getD-append-add ys (drop k (drop a xs)) j 0
-      ∙ getD-drop k (drop a xs) j 0 ∙ getD-drop a xs (k + j) 0 ∙ ap (λ (n : ℕ). getD xs n 0) (omega arith)
 
 -- ---- a row lent
 

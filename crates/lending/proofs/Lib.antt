@@ -1,0 +1,3 @@
+-- Laws of spans and of the lender's refusals.
+pub mod Spans
+pub mod Rules
