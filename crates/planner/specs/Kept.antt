@@ -12,15 +12,15 @@ use Rattle.planner.specs.Inner.Tables.{cost-entry, choice-entry}
 abbrev pub table-of : Instance → (ℕ → ℕ → ℕ) → List ℕ
 table-of I f = places (entries I) (λ i. f (i / 2 ^ I .r) (i % 2 ^ I .r))
 
--- the first s × 2^r entries of the cost table: the least charge of each set on each cabinet and all under it
+-- the first s × 2^r entries of the span in the cost table: the least charge of each set on each cabinet and all under it
 unfoldable pub kept-costs : Instance → List ℕ
 kept-costs I = table-of I (cost-entry I)
 
--- the first s × 2^r entries of the choice table: the services that stay with the parent, and for the empty set the count of the splits
+-- those of the span in the choice table: the services that stay with the parent, and for the empty set the count of the splits
 unfoldable pub kept-choices : Instance → List ℕ
 kept-choices I = table-of I (choice-entry I)
 
--- both tables are kept of the instance
+-- these entries of a span, of the cost table and of the choice table, are kept of the instance
 pub record Kept (I : Instance) (costs choices : List ℕ) : Type 0 where
   pub of-costs : take (entries I) costs ≡ kept-costs I
   pub of-choices : take (entries I) choices ≡ kept-choices I

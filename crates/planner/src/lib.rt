@@ -7,7 +7,8 @@ ghost use Rattle.sheet.specs.Limits.{max-services};
 ghost use Rattle.sheet.specs.Refusals.{first-applying};
 ghost use Rattle.embedding.specs.Plan.{cheapest};
 ghost use Rattle.embedding.specs.Splits.{weighed};
-ghost use Rattle.planner.specs.Answers.{entries, lender-rules, solved, lent, planned};
+ghost use Rattle.lending.specs.Rules.{lender-rules};
+ghost use Rattle.planner.specs.Answers.{entries, solved, lent, planned};
 ghost use Rattle.planner.specs.Lent.{front-after, table-after, OutputAfter};
 ghost use Rattle.planner.specs.Kept.{kept-costs, kept-choices};
 ghost use Rattle.planner.specs.Bounds.{split-bound};
@@ -15,6 +16,8 @@ ghost use Rattle.planner.specs.Inner.Decided.{planned-of};
 ghost use Rattle.planner.specs.Inner.Fronts.{front-of};
 ghost use Rattle.records.specs.Told.{told};
 use core::Kept;
+use lending::Measured;
+use lending::Span;
 use records::Records;
 use sheet::Reading;
 use sheet::Refusal;
@@ -77,36 +80,34 @@ fn solve(
     }
 }
 
-// Plans the records of a sheet, where the memory lent suffices.
+// Plans the records of a sheet, where the memory lent suffices. The rows are lent on as the first part of the span.
 fn plan_records(
     records: Records,
     output: &mut [u16],
     costs: &mut [u64],
     choices: &mut [u16],
+    span: Span,
     keeps: bool,
 ) -> Planned
     requires { ⌜ WellFormed (told records) ⌝ }
-    ensures answer { λ a. ⌜ a ≡ lent (first-applying (lender-rules (told records) (length (now (output .entry))) (length (now (costs .entry))) (length (now (choices .entry))))) (told records) ⌝ }
+    ensures answer { λ a. ⌜ a ≡ lent (first-applying (lender-rules (told records .r) (entries (told records)) (length (now (output .entry))) (length (now (costs .entry))) (length (now (choices .entry))) span)) (told records) ⌝ }
     ensures output { λ a. ⌜ OutputAfter (told records) a (now (output .entry)) (now (output .exit)) ⌝ }
-    ensures costs { λ a. ⌜ now (costs .exit) ≡ front-after (told records) a (front-of (told records) keeps (kept-costs (told records))) (now (costs .entry)) ⌝ }
-    ensures choices { λ a. ⌜ now (choices .exit) ≡ front-after (told records) a (front-of (told records) keeps (kept-choices (told records))) (now (choices .entry)) ⌝ }
+    ensures costs { λ a. ⌜ now (costs .exit) ≡ front-after (told records) a span (front-of (told records) keeps (kept-costs (told records))) (now (costs .entry)) ⌝ }
+    ensures choices { λ a. ⌜ now (choices .exit) ≡ front-after (told records) a span (front-of (told records) keeps (kept-choices (told records))) (now (choices .entry)) ⌝ }
 {
     let r = records.services;
     let entries = records.cabinets * sets_of(r);
-    if output.len() < r {
-        return Planned::Refused(Refusal::Lender(10), 0);
+    let measured = lending::measure(r, entries, output.len(), costs.len(), choices.len(), span);
+    if let Measured::Refused(refusal) = measured {
+        return Planned::Refused(refusal, 0);
     }
-    if costs.len() < entries {
-        return Planned::Refused(Refusal::Lender(11), 0);
-    }
-    if choices.len() < entries {
-        return Planned::Refused(Refusal::Lender(11), 0);
-    }
+    let first = span.first;
+    let end = first + entries;
     solve(
         records,
         &mut output[..r],
-        &mut costs[..entries],
-        &mut choices[..entries],
+        &mut costs[first..end],
+        &mut choices[first..end],
         keeps,
     )
 }
@@ -117,12 +118,13 @@ fn run(
     output: &mut [u16],
     costs: &mut [u64],
     choices: &mut [u16],
+    span: Span,
     keeps: bool,
 ) -> Planned
-    ensures answer { λ a. ⌜ a ≡ planned (now (sheet .entry)) (length (now (output .entry))) (length (now (costs .entry))) (length (now (choices .entry))) ⌝ }
+    ensures answer { λ a. ⌜ a ≡ planned (now (sheet .entry)) (length (now (output .entry))) (length (now (costs .entry))) (length (now (choices .entry))) span ⌝ }
     ensures output { λ a. ⌜ OutputAfter (instance (now (sheet .entry))) a (now (output .entry)) (now (output .exit)) ⌝ }
-    ensures costs { λ a. ⌜ now (costs .exit) ≡ front-after (instance (now (sheet .entry))) a (front-of (instance (now (sheet .entry))) keeps (kept-costs (instance (now (sheet .entry))))) (now (costs .entry)) ⌝ }
-    ensures choices { λ a. ⌜ now (choices .exit) ≡ front-after (instance (now (sheet .entry))) a (front-of (instance (now (sheet .entry))) keeps (kept-choices (instance (now (sheet .entry))))) (now (choices .entry)) ⌝ }
+    ensures costs { λ a. ⌜ now (costs .exit) ≡ front-after (instance (now (sheet .entry))) a span (front-of (instance (now (sheet .entry))) keeps (kept-costs (instance (now (sheet .entry))))) (now (costs .entry)) ⌝ }
+    ensures choices { λ a. ⌜ now (choices .exit) ≡ front-after (instance (now (sheet .entry))) a span (front-of (instance (now (sheet .entry))) keeps (kept-choices (instance (now (sheet .entry))))) (now (choices .entry)) ⌝ }
 {
     let loaded = records::load(sheet);
     let answer = loaded.answer;
@@ -133,27 +135,40 @@ fn run(
         };
         return Planned::Refused(refusal, 0);
     };
-    plan_records(loaded.records, output, costs, choices, keeps)
+    plan_records(loaded.records, output, costs, choices, span, keeps)
 }
 
-// Writes the first of the cheapest plans of the sheet to the output. Each table has one row a cabinet, with an entry for every set of services.
-pub fn plan(sheet: &[u8], output: &mut [u16], costs: &mut [u64], choices: &mut [u16]) -> Planned
-    ensures answer { λ a. ⌜ a ≡ planned (now (sheet .entry)) (length (now (output .entry))) (length (now (costs .entry))) (length (now (choices .entry))) ⌝ }
+// Writes the first of the cheapest plans of the sheet to the output. In the span each table has one row a cabinet, with an entry for every set of
+// services; no entry outside the span is touched.
+pub fn plan(
+    sheet: &[u8],
+    output: &mut [u16],
+    costs: &mut [u64],
+    choices: &mut [u16],
+    span: Span,
+) -> Planned
+    ensures answer { λ a. ⌜ a ≡ planned (now (sheet .entry)) (length (now (output .entry))) (length (now (costs .entry))) (length (now (choices .entry))) span ⌝ }
     ensures output { λ a. ⌜ OutputAfter (instance (now (sheet .entry))) a (now (output .entry)) (now (output .exit)) ⌝ }
-    ensures costs { λ a. ⌜ now (costs .exit) ≡ table-after (instance (now (sheet .entry))) a (now (costs .entry)) ⌝ }
-    ensures choices { λ a. ⌜ now (choices .exit) ≡ table-after (instance (now (sheet .entry))) a (now (choices .entry)) ⌝ }
+    ensures costs { λ a. ⌜ now (costs .exit) ≡ table-after (instance (now (sheet .entry))) a span (now (costs .entry)) ⌝ }
+    ensures choices { λ a. ⌜ now (choices .exit) ≡ table-after (instance (now (sheet .entry))) a span (now (choices .entry)) ⌝ }
 {
-    run(sheet, output, costs, choices, false)
+    run(sheet, output, costs, choices, span, false)
 }
 
 // The same as `plan`, but both tables are kept as they were filled.
-pub fn keep(sheet: &[u8], output: &mut [u16], costs: &mut [u64], choices: &mut [u16]) -> Planned
-    ensures answer { λ a. ⌜ a ≡ planned (now (sheet .entry)) (length (now (output .entry))) (length (now (costs .entry))) (length (now (choices .entry))) ⌝ }
+pub fn keep(
+    sheet: &[u8],
+    output: &mut [u16],
+    costs: &mut [u64],
+    choices: &mut [u16],
+    span: Span,
+) -> Planned
+    ensures answer { λ a. ⌜ a ≡ planned (now (sheet .entry)) (length (now (output .entry))) (length (now (costs .entry))) (length (now (choices .entry))) span ⌝ }
     ensures output { λ a. ⌜ OutputAfter (instance (now (sheet .entry))) a (now (output .entry)) (now (output .exit)) ⌝ }
-    ensures costs { λ a. ⌜ now (costs .exit) ≡ front-after (instance (now (sheet .entry))) a (kept-costs (instance (now (sheet .entry)))) (now (costs .entry)) ⌝ }
-    ensures choices { λ a. ⌜ now (choices .exit) ≡ front-after (instance (now (sheet .entry))) a (kept-choices (instance (now (sheet .entry)))) (now (choices .entry)) ⌝ }
+    ensures costs { λ a. ⌜ now (costs .exit) ≡ front-after (instance (now (sheet .entry))) a span (kept-costs (instance (now (sheet .entry)))) (now (costs .entry)) ⌝ }
+    ensures choices { λ a. ⌜ now (choices .exit) ≡ front-after (instance (now (sheet .entry))) a span (kept-choices (instance (now (sheet .entry)))) (now (choices .entry)) ⌝ }
 {
-    run(sheet, output, costs, choices, true)
+    run(sheet, output, costs, choices, span, true)
 }
 
 // The bound of the count for so many services and cabinets.
