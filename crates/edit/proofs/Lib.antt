@@ -4,4 +4,3 @@ pub mod Before
 pub mod Tables
 pub mod Accepting
 mod Reworking
-mod Lifting

@@ -13,12 +13,15 @@ use Rattle.subsets.specs.Tree.{under}
 use Rattle.subsets.specs.Inner.Net.{Falls}
 use Rattle.sheet.specs.Instance.{Instance}
 use Rattle.embedding.proofs.First.{places-length, places-at, places-ext}
+use Rattle.lending.specs.Spans.{within}
+use Rattle.lending.specs.declared.Span.{Span}
 use Rattle.planner.specs.Answers.{entries}
-use Rattle.planner.specs.Lent.{used, front-after}
+use Rattle.planner.specs.Lent.{used, part-after, front-after}
 use Rattle.planner.specs.Kept as kept
 use Rattle.planner.specs.Kept.{table-of, kept-costs, kept-choices, Kept}
 use Rattle.planner.specs.Inner.Tables.{entry, cost-entry, choice-entry}
 use Rattle.planner.specs.declared.Planned.{Planned}
+use Rattle.planner.proofs.After.{after-within}
 use Rattle.edit.specs.Changed.{Changed}
 use Rattle.edit.proofs.Changing.{cost-same, choice-same}
 
@@ -55,14 +58,20 @@ module _ (I : Instance) where
 
 -- ---- tables that a keeping call leaves
 
--- where the tables were used they are kept of the instance
-pub kept-after : (I : Instance) (a : Planned) (t u t' u' : List ℕ) → used a ≡ true
-    → t' ≡ front-after I a (kept-costs I) t → u' ≡ front-after I a (kept-choices I) u → Kept I t' u'
+-- where the tables were used the span's entries are kept of the instance
+pub kept-after : (I : Instance) (a : Planned) (span : Span) (t u t' u' : List ℕ) → used a ≡ true
+    → span .first + span .number ≤ length t → span .first + span .number ≤ length u → entries I ≤ span .number
+    → t' ≡ front-after I a span (kept-costs I) t → u' ≡ front-after I a span (kept-choices I) u → Kept I (within span t') (within span u')
 unfolding kept.kept-costs kept.kept-choices
-kept-after I a t u t' u' h p q = record {
-  of-costs = ap (take (entries I)) (p ∙ ap (λ (b : Bool). cond b (kept-costs I ++ drop (entries I) t) t) h) ∙ take-at (kept-costs I) (drop (entries I) t) (entries I) (table-length I (cost-entry I));
-  of-choices = ap (take (entries I)) (q ∙ ap (λ (b : Bool). cond b (kept-choices I ++ drop (entries I) u) u) h) ∙ take-at (kept-choices I) (drop (entries I) u) (entries I) (table-length I (choice-entry I));
+kept-after I a span t u t' u' h ft fu n p q = record {
+  of-costs = ap (take (entries I)) (ap (within span) p ∙ after-within I a span (kept-costs I) t (table-length I (cost-entry I)) (λ z. (ft, n)) ∙ part-is (kept-costs I) (within span t))
+      ∙ take-at (kept-costs I) (drop (entries I) (within span t)) (entries I) (table-length I (cost-entry I));
+  of-choices = ap (take (entries I)) (ap (within span) q ∙ after-within I a span (kept-choices I) u (table-length I (choice-entry I)) (λ z. (fu, n)) ∙ part-is (kept-choices I) (within span u))
+      ∙ take-at (kept-choices I) (drop (entries I) (within span u)) (entries I) (table-length I (choice-entry I));
 }
+  where
+    part-is : (front part : List ℕ) → part-after I a front part ≡ front ++ drop (entries I) part
+    part-is front part = ap (λ (b : Bool). cond b (front ++ drop (entries I) part) part) h
 
 -- ---- some rows put in place of others
 

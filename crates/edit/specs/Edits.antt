@@ -12,85 +12,59 @@ use Rattle.sheet.specs.Reading as reader
 use Rattle.sheet.specs.Refusals.{Rule, first-applying, refusal}
 use Rattle.checker.specs.Check.{checked}
 use Rattle.checker.specs.declared.Checked.the-variants.{Accepted}
-use Rattle.planner.specs.Answers.{entries, lender-rules, plan-numbers, planned}
-use Rattle.planner.specs.Lent.{front-after, OutputAfter}
-use Rattle.planner.specs.Kept.{kept-costs, kept-choices, Kept}
+use Rattle.lending.specs.Spans.{within}
+use Rattle.lending.specs.Rules.{lender-rules}
+use Rattle.lending.specs.declared.Span.{Span}
+use Rattle.planner.specs.Answers.{entries, plan-numbers}
+use Rattle.planner.specs.Kept.{Kept}
 use Rattle.planner.specs.declared.Planned.{Planned}
 use Rattle.planner.specs.declared.Planned.the-variants.{Plan, Refused}
+use Rattle.edit.specs.Calls.{Call, asked, Untouched, Keeps}
 use Rattle.edit.specs.Changed.{Changed}
 
--- a call as it was made, and what came of it: primes mark what is there after it
-pub record Call : Type 0 where
-  pub sheet : List ℕ
-  pub cabinet : ℕ
-  pub output : List ℕ
-  pub costs : List ℕ
-  pub choices : List ℕ
-  pub answer : Planned
-  pub output' : List ℕ
-  pub costs' : List ℕ
-  pub choices' : List ℕ
-
--- the call of these arguments, with this answer and what they are after it
-abbrev pub called : List ℕ → ℕ → List ℕ → List ℕ → List ℕ → Planned → List ℕ → List ℕ → List ℕ → Call
-called sheet e o t u a o' t' u' =
-    record { sheet = sheet; cabinet = e; output = o; costs = t; choices = u; answer = a; output' = o'; costs' = t'; choices' = u' }
-
 -- the refusals that an edit gives before it touches a table, in the order in which they are tried
-abbrev pub rules-before : List ℕ → ℕ → ℕ → ℕ → ℕ → List Rule
-rules-before bytes e output costs choices =
+abbrev pub rules-before : List ℕ → ℕ → ℕ → ℕ → ℕ → Span → List Rule
+rules-before bytes e output costs choices span =
     reader.rules bytes
-    ++ (lender-rules (instance bytes) output costs choices ++ (record { number = 14; applies = leb (instance bytes .s) e } ∷ []))
+    ++ (lender-rules (instance bytes .r) (entries (instance bytes)) output costs choices span
+    ++ (record { number = 14; applies = leb (instance bytes .s) e } ∷ []))
 
 -- the numbers of all refusals that an edit can give: the planner's, and two of its own
 abbrev pub edit-numbers : List ℕ
 edit-numbers = plan-numbers ++ (14 ∷ 23 ∷ [])
 
 module _ (d : Call) where
-  -- the instance of its sheet
-  abbrev pub edited : Instance
-  edited = instance (d .sheet)
-
   -- the number of the first of those refusals that applies, 0 where none does
   abbrev pub number-before : ℕ
-  number-before = first-applying (rules-before (d .sheet) (d .cabinet) (length (d .output)) (length (d .costs)) (length (d .choices)))
+  number-before = first-applying (rules-before (d .sheet) (d .cabinet) (length (d .output)) (length (d .costs)) (length (d .choices)) (d .span))
 
   -- cabinet c is off the path from the edited one to the root
   abbrev pub off-path : ℕ → Type 0
-  off-path c = under (edited .parent) c (d .cabinet) ≡ false
+  off-path c = under (asked d .parent) c (d .cabinet) ≡ false
 
-  -- entry x of row c is the same in both tables
-  abbrev pub entry-stays : List ℕ → List ℕ → ℕ → ℕ → Type 0
-  entry-stays table table' c x = getD table' (c * 2 ^ edited .r + x) 0 ≡ getD table (c * 2 ^ edited .r + x) 0
-
--- all memory lent is as it was
-pub record Untouched (d : Call) : Type 0 where
-  pub output : d .output' ≡ d .output
-  pub costs : d .costs' ≡ d .costs
-  pub choices : d .choices' ≡ d .choices
+  -- the place of entry x of row c in a table: the rows stand in the span from its first entry on
+  abbrev pub entry-place : ℕ → ℕ → ℕ
+  entry-place c x = d .span .first + (c * 2 ^ asked d .r + x)
 
 -- what comes of any tables: the check accepts the plan in the first r places of the output at the cost answered, and all other places stay; or it is
 -- 12, or 23 without a count, and all of the output stays. Which of these it is, and the count, are free.
 abbrev pub Outcome : Call → Planned → Type 0
 Outcome d (Plan k n) =
-    (checked (d .sheet) (take (edited d .r) (d .output')) ≡ Accepted k) × (d .output' ≡ take (edited d .r) (d .output') ++ drop (edited d .r) (d .output))
+    (checked (d .sheet) (take (asked d .r) (d .output')) ≡ Accepted k) × (d .output' ≡ take (asked d .r) (d .output') ++ drop (asked d .r) (d .output))
 Outcome d (Refused f n) = ((f ≡ refusal 12) ⊎ ((f ≡ refusal 23) × (n ≡ 0))) × (d .output' ≡ d .output)
 
+-- an entry is the same before and after
+abbrev pub stays : List ℕ → List ℕ → ℕ → Type 0
+stays table table' i = getD table' i 0 ≡ getD table i 0
+
 -- the rows that stay, whatever the tables hold: the cost rows off the path, the choice rows of the root and of the cabinets whose parents are off the
--- path, and all that is behind the rows. The other rows are free.
+-- path, and all that is before the rows or behind them. The other rows are free.
 pub record RowsStay (d : Call) : Type 0 where
   pub costs-length : length (d .costs') ≡ length (d .costs)
   pub choices-length : length (d .choices') ≡ length (d .choices)
-  pub costs : (c x : ℕ) → c < edited d .s → off-path d c → x < 2 ^ edited d .r → entry-stays d (d .costs) (d .costs') c x
-  pub choices : (c x : ℕ) → c < edited d .s → (0 < c → off-path d (edited d .parent c)) → x < 2 ^ edited d .r → entry-stays d (d .choices) (d .choices') c x
-  pub behind : (i : ℕ) → entries (edited d) ≤ i → (getD (d .costs') i 0 ≡ getD (d .costs) i 0) × (getD (d .choices') i 0 ≡ getD (d .choices) i 0)
-
--- answer, output and both tables are those of a keeping call on the sheet
-pub record Fresh (d : Call) : Type 0 where
-  pub answer : d .answer ≡ planned (d .sheet) (length (d .output)) (length (d .costs)) (length (d .choices))
-  pub output : OutputAfter (edited d) (d .answer) (d .output) (d .output')
-  pub costs : d .costs' ≡ front-after (edited d) (d .answer) (kept-costs (edited d)) (d .costs)
-  pub choices : d .choices' ≡ front-after (edited d) (d .answer) (kept-choices (edited d)) (d .choices)
+  pub costs : (c x : ℕ) → c < asked d .s → off-path d c → x < 2 ^ asked d .r → stays (d .costs) (d .costs') (entry-place d c x)
+  pub choices : (c x : ℕ) → c < asked d .s → (0 < c → off-path d (asked d .parent c)) → x < 2 ^ asked d .r → stays (d .choices) (d .choices') (entry-place d c x)
+  pub others : (i : ℕ) → (i < d .span .first) ⊎ (d .span .first + entries (asked d) ≤ i) → stays (d .costs) (d .costs') i × stays (d .choices) (d .choices') i
 
 -- what an edit answers and leaves
 pub record Edits (d : Call) : Type 0 where
@@ -99,5 +73,6 @@ pub record Edits (d : Call) : Type 0 where
   -- else, for any tables
   pub outcome : number-before d ≡ 0 → Outcome d (d .answer)
   pub rows : number-before d ≡ 0 → RowsStay d
-  -- and for tables kept of an instance that differs in that cabinet's record alone, its parent excepted
-  pub in-rule : number-before d ≡ 0 → (I : Instance) → Kept I (d .costs) (d .choices) → Changed (d .cabinet) I (edited d) → Fresh d
+  -- and where the span's entries are kept of an instance that differs in that cabinet's record alone, its parent excepted: what a keeping call does
+  pub in-rule : number-before d ≡ 0 → (I : Instance) → Kept I (within (d .span) (d .costs)) (within (d .span) (d .choices)) → Changed (d .cabinet) I (asked d)
+      → Keeps d

@@ -6,10 +6,13 @@ ghost use lib.ListN.{length};
 ghost use Rattle.sheet.specs.Limits.{max-services};
 ghost use Rattle.checker.specs.Check.{checked};
 ghost use Rattle.records.specs.Told.{told};
-ghost use Rattle.edit.specs.Edits.{called, Edits};
+ghost use Rattle.edit.specs.Calls.{called};
+ghost use Rattle.edit.specs.Edits.{Edits};
 ghost use Rattle.edit.specs.Inner.Parts.{Loaded, Parted, Reworks, accepted-at, handed, output-of};
 use checker::Checked;
 use core::Kept;
+use lending::Measured;
+use lending::Span;
 use planner::Planned;
 use records::Records;
 use sheet::Reading;
@@ -95,44 +98,43 @@ fn edit_records(
     output: &mut [u16],
     costs: &mut [u64],
     choices: &mut [u16],
+    span: Span,
 ) -> Planned
     requires { ⌜ Loaded (now sheet) records ⌝ }
-    ensures { λ a. ⌜ Edits (called (now (sheet .entry)) cabinet (now (output .entry)) (now (costs .entry)) (now (choices .entry)) a (now (output .exit)) (now (costs .exit)) (now (choices .exit))) ⌝ }
+    ensures { λ a. ⌜ Edits (called (now (sheet .entry)) cabinet (now (output .entry)) (now (costs .entry)) (now (choices .entry)) span a (now (output .exit)) (now (costs .exit)) (now (choices .exit))) ⌝ }
 {
     let r = records.services;
     let entries = records.cabinets * sets_of(r);
-    if output.len() < r {
-        return Planned::Refused(Refusal::Lender(10), 0);
-    }
-    if costs.len() < entries {
-        return Planned::Refused(Refusal::Lender(11), 0);
-    }
-    if choices.len() < entries {
-        return Planned::Refused(Refusal::Lender(11), 0);
+    let measured = lending::measure(r, entries, output.len(), costs.len(), choices.len(), span);
+    if let Measured::Refused(refusal) = measured {
+        return Planned::Refused(refusal, 0);
     }
     if records.cabinets <= cabinet {
         return Planned::Refused(Refusal::PlanWriter(14), 0);
     }
+    let first = span.first;
+    let end = first + entries;
     rework(
         sheet,
         records,
         cabinet,
         &mut output[..r],
-        &mut costs[..entries],
-        &mut choices[..entries],
+        &mut costs[first..end],
+        &mut choices[first..end],
     )
 }
 
-// Makes the tables kept of a sheet those of this one, which differs in this cabinet's record alone, its parent excepted, and writes the first of the
-// cheapest plans to the output. The tables may hold anything: a plan that the check does not accept at its cost is not handed out.
+// Makes the tables kept of a sheet in the span those of this one, which differs in this cabinet's record alone, its parent excepted, and writes the
+// first of the cheapest plans to the output. The span may hold anything: a plan that the check does not accept at its cost is not handed out.
 pub fn edit(
     sheet: &[u8],
     cabinet: usize,
     output: &mut [u16],
     costs: &mut [u64],
     choices: &mut [u16],
+    span: Span,
 ) -> Planned
-    ensures { λ a. ⌜ Edits (called (now (sheet .entry)) cabinet (now (output .entry)) (now (costs .entry)) (now (choices .entry)) a (now (output .exit)) (now (costs .exit)) (now (choices .exit))) ⌝ }
+    ensures { λ a. ⌜ Edits (called (now (sheet .entry)) cabinet (now (output .entry)) (now (costs .entry)) (now (choices .entry)) span a (now (output .exit)) (now (costs .exit)) (now (choices .exit))) ⌝ }
 {
     let loaded = records::load(sheet);
     let answer = loaded.answer;
@@ -143,5 +145,5 @@ pub fn edit(
         };
         return Planned::Refused(refusal, 0);
     };
-    edit_records(sheet, loaded.records, cabinet, output, costs, choices)
+    edit_records(sheet, loaded.records, cabinet, output, costs, choices, span)
 }

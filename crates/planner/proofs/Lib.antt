@@ -4,4 +4,6 @@ pub mod Listed
 pub mod Kept
 pub mod Lending
 pub mod Order
+pub mod Solved
+pub mod After
 mod Bounding
