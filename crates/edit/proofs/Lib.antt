@@ -4,3 +4,4 @@ pub mod Before
 pub mod Tables
 pub mod Accepting
 mod Reworking
+mod Lifting
