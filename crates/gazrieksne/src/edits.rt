@@ -1,12 +1,16 @@
-// The entry point of the call that edits kept tables.
+// The entry points of the call that edits kept tables.
 ghost use mathlib.Core.Path.{_≡_};
-ghost use Rattle.planner.specs.Answers.{number};
+ghost use lib.ListN.{length};
+ghost use Rattle.lending.specs.Spans.{span-of, whole};
+ghost use Rattle.planner.specs.Answers.{number as plan-number};
 ghost use Rattle.planner.specs.declared.Planned.{Planned};
-ghost use Rattle.edit.specs.Edits.{called, Edits};
+ghost use Rattle.edit.specs.Calls.{called};
+ghost use Rattle.edit.specs.Edits.{Edits};
 ghost use Rattle.gazrieksne.specs.Plans.{plan-answer};
 use crate::plans::tell;
+use lending::Span;
 
-// The editing call, with its answer as numbers.
+// The editing call on the whole of the shorter table, with its answer as numbers.
 #[no_mangle]
 pub extern "C" fn gz_edit(
     bytes: &[u8],
@@ -16,8 +20,31 @@ pub extern "C" fn gz_edit(
     choices: &mut [u16],
     answer: &mut [u64; 3],
 ) -> u64
-    ensures { λ r. ⌜ ((a : Planned) × Edits (called (now (bytes .entry)) cabinet (now (output .entry)) (now (costs .entry)) (now (choices .entry)) a (now (output .exit)) (now (costs .exit)) (now (choices .exit))) × (r ≡ number a) × (now (answer .exit) ≡ plan-answer a)) ⌝ }
+    ensures { λ r. ⌜ ((a : Planned) × Edits (called (now (bytes .entry)) cabinet (now (output .entry)) (now (costs .entry)) (now (choices .entry)) (whole (length (now (costs .entry))) (length (now (choices .entry)))) a (now (output .exit)) (now (costs .exit)) (now (choices .exit))) × (r ≡ plan-number a) × (now (answer .exit) ≡ plan-answer a)) ⌝ }
 {
-    let answered = edit::edit(bytes, cabinet, output, costs, choices);
+    let span = Span::whole(costs.len(), choices.len());
+    let answered = edit::edit(bytes, cabinet, output, costs, choices, span);
+    tell(answered, answer)
+}
+
+// The editing call on a span, with its answer as numbers.
+#[no_mangle]
+pub extern "C" fn gz_edit_span(
+    bytes: &[u8],
+    cabinet: usize,
+    output: &mut [u16],
+    costs: &mut [u64],
+    choices: &mut [u16],
+    first: usize,
+    number: usize,
+    answer: &mut [u64; 3],
+) -> u64
+    ensures { λ r. ⌜ ((a : Planned) × Edits (called (now (bytes .entry)) cabinet (now (output .entry)) (now (costs .entry)) (now (choices .entry)) (span-of first number) a (now (output .exit)) (now (costs .exit)) (now (choices .exit))) × (r ≡ plan-number a) × (now (answer .exit) ≡ plan-answer a)) ⌝ }
+{
+    let span = Span {
+        first: first,
+        number: number,
+    };
+    let answered = edit::edit(bytes, cabinet, output, costs, choices, span);
     tell(answered, answer)
 }

@@ -2,18 +2,20 @@
 ghost use mathlib.Core.Path.{_≡_};
 ghost use lib.ListN.{length};
 ghost use Rattle.sheet.specs.Instance.{instance};
-ghost use Rattle.planner.specs.Answers.{number, planned};
+ghost use Rattle.lending.specs.Spans.{span-of, whole};
+ghost use Rattle.planner.specs.Answers.{number as plan-number, planned};
 ghost use Rattle.planner.specs.Lent.{front-after, table-after, OutputAfter};
 ghost use Rattle.planner.specs.Kept.{kept-costs, kept-choices};
 ghost use Rattle.planner.specs.Bounds.{split-bound, number as bound-number};
 ghost use Rattle.gazrieksne.specs.Plans.{plan-answer, bound-answer};
 use crate::reads::wide;
+use lending::Span;
 use planner::Planned;
 use planner::SplitBound;
 
 // The refusal's number, 0 for none; group, cost and count are written.
 pub(crate) fn tell(answered: Planned, answer: &mut [u64; 3]) -> u64
-    ensures refusal { λ r. ⌜ r ≡ number answered ⌝ }
+    ensures refusal { λ r. ⌜ r ≡ plan-number answered ⌝ }
     ensures answer { λ r. ⌜ now (answer .exit) ≡ plan-answer answered ⌝ }
 {
     match answered {
@@ -28,7 +30,7 @@ pub(crate) fn tell(answered: Planned, answer: &mut [u64; 3]) -> u64
     }
 }
 
-// The planner's call, with its answer as numbers.
+// The planner's call on the whole of the shorter table, with its answer as numbers.
 #[no_mangle]
 pub extern "C" fn gz_plan(
     bytes: &[u8],
@@ -37,17 +39,43 @@ pub extern "C" fn gz_plan(
     choices: &mut [u16],
     answer: &mut [u64; 3],
 ) -> u64
-    ensures refusal { λ r. ⌜ r ≡ number (planned (now (bytes .entry)) (length (now (output .entry))) (length (now (costs .entry))) (length (now (choices .entry)))) ⌝ }
-    ensures answer { λ r. ⌜ now (answer .exit) ≡ plan-answer (planned (now (bytes .entry)) (length (now (output .entry))) (length (now (costs .entry))) (length (now (choices .entry)))) ⌝ }
-    ensures output { λ r. ⌜ OutputAfter (instance (now (bytes .entry))) (planned (now (bytes .entry)) (length (now (output .entry))) (length (now (costs .entry))) (length (now (choices .entry)))) (now (output .entry)) (now (output .exit)) ⌝ }
-    ensures costs { λ r. ⌜ now (costs .exit) ≡ table-after (instance (now (bytes .entry))) (planned (now (bytes .entry)) (length (now (output .entry))) (length (now (costs .entry))) (length (now (choices .entry)))) (now (costs .entry)) ⌝ }
-    ensures choices { λ r. ⌜ now (choices .exit) ≡ table-after (instance (now (bytes .entry))) (planned (now (bytes .entry)) (length (now (output .entry))) (length (now (costs .entry))) (length (now (choices .entry)))) (now (choices .entry)) ⌝ }
+    ensures refusal { λ r. ⌜ r ≡ plan-number (planned (now (bytes .entry)) (length (now (output .entry))) (length (now (costs .entry))) (length (now (choices .entry))) (whole (length (now (costs .entry))) (length (now (choices .entry))))) ⌝ }
+    ensures answer { λ r. ⌜ now (answer .exit) ≡ plan-answer (planned (now (bytes .entry)) (length (now (output .entry))) (length (now (costs .entry))) (length (now (choices .entry))) (whole (length (now (costs .entry))) (length (now (choices .entry))))) ⌝ }
+    ensures output { λ r. ⌜ OutputAfter (instance (now (bytes .entry))) (planned (now (bytes .entry)) (length (now (output .entry))) (length (now (costs .entry))) (length (now (choices .entry))) (whole (length (now (costs .entry))) (length (now (choices .entry))))) (now (output .entry)) (now (output .exit)) ⌝ }
+    ensures costs { λ r. ⌜ now (costs .exit) ≡ table-after (instance (now (bytes .entry))) (planned (now (bytes .entry)) (length (now (output .entry))) (length (now (costs .entry))) (length (now (choices .entry))) (whole (length (now (costs .entry))) (length (now (choices .entry))))) (whole (length (now (costs .entry))) (length (now (choices .entry)))) (now (costs .entry)) ⌝ }
+    ensures choices { λ r. ⌜ now (choices .exit) ≡ table-after (instance (now (bytes .entry))) (planned (now (bytes .entry)) (length (now (output .entry))) (length (now (costs .entry))) (length (now (choices .entry))) (whole (length (now (costs .entry))) (length (now (choices .entry))))) (whole (length (now (costs .entry))) (length (now (choices .entry)))) (now (choices .entry)) ⌝ }
 {
-    let answered = planner::plan(bytes, output, costs, choices);
+    let span = Span::whole(costs.len(), choices.len());
+    let answered = planner::plan(bytes, output, costs, choices, span);
     tell(answered, answer)
 }
 
-// The keeping call, with its answer as numbers.
+// The planner's call on a span, with its answer as numbers.
+#[no_mangle]
+pub extern "C" fn gz_plan_span(
+    bytes: &[u8],
+    output: &mut [u16],
+    costs: &mut [u64],
+    choices: &mut [u16],
+    first: usize,
+    number: usize,
+    answer: &mut [u64; 3],
+) -> u64
+    ensures refusal { λ r. ⌜ r ≡ plan-number (planned (now (bytes .entry)) (length (now (output .entry))) (length (now (costs .entry))) (length (now (choices .entry))) (span-of first number)) ⌝ }
+    ensures answer { λ r. ⌜ now (answer .exit) ≡ plan-answer (planned (now (bytes .entry)) (length (now (output .entry))) (length (now (costs .entry))) (length (now (choices .entry))) (span-of first number)) ⌝ }
+    ensures output { λ r. ⌜ OutputAfter (instance (now (bytes .entry))) (planned (now (bytes .entry)) (length (now (output .entry))) (length (now (costs .entry))) (length (now (choices .entry))) (span-of first number)) (now (output .entry)) (now (output .exit)) ⌝ }
+    ensures costs { λ r. ⌜ now (costs .exit) ≡ table-after (instance (now (bytes .entry))) (planned (now (bytes .entry)) (length (now (output .entry))) (length (now (costs .entry))) (length (now (choices .entry))) (span-of first number)) (span-of first number) (now (costs .entry)) ⌝ }
+    ensures choices { λ r. ⌜ now (choices .exit) ≡ table-after (instance (now (bytes .entry))) (planned (now (bytes .entry)) (length (now (output .entry))) (length (now (costs .entry))) (length (now (choices .entry))) (span-of first number)) (span-of first number) (now (choices .entry)) ⌝ }
+{
+    let span = Span {
+        first: first,
+        number: number,
+    };
+    let answered = planner::plan(bytes, output, costs, choices, span);
+    tell(answered, answer)
+}
+
+// The keeping call on the whole of the shorter table, with its answer as numbers.
 #[no_mangle]
 pub extern "C" fn gz_keep(
     bytes: &[u8],
@@ -56,13 +84,39 @@ pub extern "C" fn gz_keep(
     choices: &mut [u16],
     answer: &mut [u64; 3],
 ) -> u64
-    ensures refusal { λ r. ⌜ r ≡ number (planned (now (bytes .entry)) (length (now (output .entry))) (length (now (costs .entry))) (length (now (choices .entry)))) ⌝ }
-    ensures answer { λ r. ⌜ now (answer .exit) ≡ plan-answer (planned (now (bytes .entry)) (length (now (output .entry))) (length (now (costs .entry))) (length (now (choices .entry)))) ⌝ }
-    ensures output { λ r. ⌜ OutputAfter (instance (now (bytes .entry))) (planned (now (bytes .entry)) (length (now (output .entry))) (length (now (costs .entry))) (length (now (choices .entry)))) (now (output .entry)) (now (output .exit)) ⌝ }
-    ensures costs { λ r. ⌜ now (costs .exit) ≡ front-after (instance (now (bytes .entry))) (planned (now (bytes .entry)) (length (now (output .entry))) (length (now (costs .entry))) (length (now (choices .entry)))) (kept-costs (instance (now (bytes .entry)))) (now (costs .entry)) ⌝ }
-    ensures choices { λ r. ⌜ now (choices .exit) ≡ front-after (instance (now (bytes .entry))) (planned (now (bytes .entry)) (length (now (output .entry))) (length (now (costs .entry))) (length (now (choices .entry)))) (kept-choices (instance (now (bytes .entry)))) (now (choices .entry)) ⌝ }
+    ensures refusal { λ r. ⌜ r ≡ plan-number (planned (now (bytes .entry)) (length (now (output .entry))) (length (now (costs .entry))) (length (now (choices .entry))) (whole (length (now (costs .entry))) (length (now (choices .entry))))) ⌝ }
+    ensures answer { λ r. ⌜ now (answer .exit) ≡ plan-answer (planned (now (bytes .entry)) (length (now (output .entry))) (length (now (costs .entry))) (length (now (choices .entry))) (whole (length (now (costs .entry))) (length (now (choices .entry))))) ⌝ }
+    ensures output { λ r. ⌜ OutputAfter (instance (now (bytes .entry))) (planned (now (bytes .entry)) (length (now (output .entry))) (length (now (costs .entry))) (length (now (choices .entry))) (whole (length (now (costs .entry))) (length (now (choices .entry))))) (now (output .entry)) (now (output .exit)) ⌝ }
+    ensures costs { λ r. ⌜ now (costs .exit) ≡ front-after (instance (now (bytes .entry))) (planned (now (bytes .entry)) (length (now (output .entry))) (length (now (costs .entry))) (length (now (choices .entry))) (whole (length (now (costs .entry))) (length (now (choices .entry))))) (whole (length (now (costs .entry))) (length (now (choices .entry)))) (kept-costs (instance (now (bytes .entry)))) (now (costs .entry)) ⌝ }
+    ensures choices { λ r. ⌜ now (choices .exit) ≡ front-after (instance (now (bytes .entry))) (planned (now (bytes .entry)) (length (now (output .entry))) (length (now (costs .entry))) (length (now (choices .entry))) (whole (length (now (costs .entry))) (length (now (choices .entry))))) (whole (length (now (costs .entry))) (length (now (choices .entry)))) (kept-choices (instance (now (bytes .entry)))) (now (choices .entry)) ⌝ }
 {
-    let answered = planner::keep(bytes, output, costs, choices);
+    let span = Span::whole(costs.len(), choices.len());
+    let answered = planner::keep(bytes, output, costs, choices, span);
+    tell(answered, answer)
+}
+
+// The keeping call on a span, with its answer as numbers.
+#[no_mangle]
+pub extern "C" fn gz_keep_span(
+    bytes: &[u8],
+    output: &mut [u16],
+    costs: &mut [u64],
+    choices: &mut [u16],
+    first: usize,
+    number: usize,
+    answer: &mut [u64; 3],
+) -> u64
+    ensures refusal { λ r. ⌜ r ≡ plan-number (planned (now (bytes .entry)) (length (now (output .entry))) (length (now (costs .entry))) (length (now (choices .entry))) (span-of first number)) ⌝ }
+    ensures answer { λ r. ⌜ now (answer .exit) ≡ plan-answer (planned (now (bytes .entry)) (length (now (output .entry))) (length (now (costs .entry))) (length (now (choices .entry))) (span-of first number)) ⌝ }
+    ensures output { λ r. ⌜ OutputAfter (instance (now (bytes .entry))) (planned (now (bytes .entry)) (length (now (output .entry))) (length (now (costs .entry))) (length (now (choices .entry))) (span-of first number)) (now (output .entry)) (now (output .exit)) ⌝ }
+    ensures costs { λ r. ⌜ now (costs .exit) ≡ front-after (instance (now (bytes .entry))) (planned (now (bytes .entry)) (length (now (output .entry))) (length (now (costs .entry))) (length (now (choices .entry))) (span-of first number)) (span-of first number) (kept-costs (instance (now (bytes .entry)))) (now (costs .entry)) ⌝ }
+    ensures choices { λ r. ⌜ now (choices .exit) ≡ front-after (instance (now (bytes .entry))) (planned (now (bytes .entry)) (length (now (output .entry))) (length (now (costs .entry))) (length (now (choices .entry))) (span-of first number)) (span-of first number) (kept-choices (instance (now (bytes .entry)))) (now (choices .entry)) ⌝ }
+{
+    let span = Span {
+        first: first,
+        number: number,
+    };
+    let answered = planner::keep(bytes, output, costs, choices, span);
     tell(answered, answer)
 }
 

@@ -8,6 +8,7 @@ use Rattle.sheet.specs.Limits.{max-services}
 use Rattle.sheet.specs.Refusals.{number-of}
 use Rattle.sheet.specs.Instance.{instance}
 use Rattle.embedding.specs.First.{first-plan, places}
+use Rattle.lending.specs.Spans.{whole}
 use Rattle.planner.specs.Answers.{planned}
 use Rattle.planner.specs.declared.Planned.{Planned}
 use Rattle.planner.specs.declared.Planned.the-variants.{Plan, Refused}
@@ -71,9 +72,9 @@ unfoldable pub answer-text : Planned → List ℕ → List ℕ
 answer-text (Plan cost count) plan = line cost-word cost ++ line weighed-word count ++ service-lines 0 plan
 answer-text (Refused f count) plan = refusal-line (number-of f)
 
--- the planner's answer with the memory that the program lends
+-- the planner's answer with the memory that the program lends, its tables as a whole
 abbrev pub program-answer : List ℕ → Planned
-program-answer bytes = planned bytes max-services table-entries table-entries
+program-answer bytes = planned bytes max-services table-entries table-entries (whole table-entries table-entries)
 
 -- the text for a sheet: that of the planner's answer, with the first of the cheapest plans
 unfoldable pub sheet-text : List ℕ → List ℕ

@@ -7,6 +7,7 @@ ghost use Rattle.report.specs.Inner.Room.{room};
 ghost use Rattle.report.specs.Text.{refusal-line, answer-text, sheet-text, printed};
 ghost use Rattle.sheet.specs.Limits.{max-services};
 ghost use Rattle.sheet.specs.Reading.{reading, services};
+use lending::Span;
 use planner::Planned;
 use sheet::Reading;
 use sheet::Sheet;
@@ -66,7 +67,8 @@ fn answer(sheet: &[u8], text: &mut [u8]) -> usize
     let mut costs = [0u64; ENTRIES];
     let mut choices = [0u16; ENTRIES];
     let r = services_of(sheet);
-    let planned = planner::plan(sheet, &mut output, &mut costs, &mut choices);
+    let span = Span::whole(ENTRIES, ENTRIES);
+    let planned = planner::plan(sheet, &mut output, &mut costs, &mut choices, span);
     put_answer(text, planned, &output[..r])
 }
 

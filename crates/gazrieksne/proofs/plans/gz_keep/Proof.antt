@@ -1,7 +1,25 @@
--- `gz_keep` meets its contract: the keeping call's promises, with its answer as numbers.
+-- `gz_keep` meets its contract.
 use borrow.Author.Needs.{needs}
+use lib.ListN.{length}
+use Rattle.sheet.specs.Instance.{instance}
+use Rattle.lending.specs.Spans.{whole}
+use Rattle.planner.specs.Kept.{kept-costs, kept-choices}
+use Rattle.gazrieksne.proofs.Telling.{told-as}
 use Rattle.gazrieksne.proofs.plans.gz_keep.Statement.{statement}
 use Rattle.gazrieksne.proofs.plans.gz_keep.Tie as tie
+
+-- the nodes of the function that its needs reach back to
+abbrev start-before-tell : tie.After-tell → tie.Start
+start-before-tell c = c .before .before .before .before .before .before .before .before .before .before .before .before .before .before .before .before .before
+
+abbrev keep-before-tell : tie.After-tell → tie.After-keep
+keep-before-tell c = c .before .before .before .before .before .before .before .before
+
+abbrev whole-before-tell : tie.After-tell → tie.After-whole
+whole-before-tell c = c .before .before .before .before .before .before .before .before .before .before .before .before
+
+whole-requires : tie.Need-whole-requires
+whole-requires c κs = search needs
 
 keep-requires : tie.Need-keep-requires
 keep-requires c κs = search needs
@@ -20,11 +38,19 @@ same-length-3 c = search needs
 
 returns : tie.Need-returns
 returns c =
-    let p = c .before .before .before .before .before .before .before .before .keep in
-    let e = p .ensures .0 in
-    (rw e at (c .tell .ensures .0), (rw e at (c .tell .ensures .1), rw e at (p .ensures .1)))
+    let a = start-before-tell c .args in
+    let p = keep-before-tell c .keep in
+    told-as (a .bytes .now) (a .output .now) _ (a .costs .now) _ (a .choices .now) _ (kept-costs (instance (a .bytes .now))) (kept-choices (instance (a .bytes .now)))
+    (p .result) _ (whole (length (a .costs .now)) (length (a .choices .now))) (whole-before-tell c .whole .ensures) (p .ensures) _ (c .tell .ensures .0) _ (c .tell .ensures .1)
 
 pub gz-keep-spec : {M : Type 1} → statement M
 gz-keep-spec =
     tie.close
-    (tie.spec keep-requires tell-requires same-length same-length-2 same-length-3 returns)
+    (tie.spec
+    whole-requires
+    keep-requires
+    tell-requires
+    same-length
+    same-length-2
+    same-length-3
+    returns)
