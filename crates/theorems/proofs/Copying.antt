@@ -19,7 +19,9 @@ use Rattle.sheet.specs.declared.Reading.the-variants.{Accepted}
 use Rattle.sheet.proofs.Promises.{well-formed, said}
 use Rattle.checker.specs.Check.{plan-checked, checked-after, checked}
 use Rattle.planner.specs.Answers as plans
-use Rattle.planner.specs.Answers.{lender-rules, lent, planned}
+use Rattle.lending.specs.Rules.{lender-rules}
+use Rattle.lending.specs.declared.Span.{Span}
+use Rattle.planner.specs.Answers.{entries, lent, planned}
 use Rattle.tidy.specs.Copy.{copy-length, tidied}
 use Rattle.tidy.specs.Answers as answers
 use Rattle.tidy.specs.Answers.{tidy-numbers, written, tidy-answer, output-after}
@@ -88,12 +90,12 @@ module _ (bytes : List ℕ) (h : Sheet) (reads : reading bytes ≡ Accepted h) w
   pub same : ((k : Sheet) × (reading copy ≡ Accepted k)) × (instance copy ≡ I) × ((n : ℕ) → getD copy n 0 < 256)
   same = says-the-same I (well-formed bytes h reads) (said bytes h reads)
 
-  pub same-planned : (output costs choices : ℕ) → planned copy output costs choices ≡ planned bytes output costs choices
+  pub same-planned : (output costs choices : ℕ) (span : Span) → planned copy output costs choices span ≡ planned bytes output costs choices span
   unfolding planned
-  same-planned output costs choices =
-      ap (λ (r : Reading). plans.answered r (instance copy) output costs choices) (same .0 .1)
-      ∙ ap (λ (J : Instance). lent (first-applying (lender-rules J output costs choices)) J) (same .1)
-      ∙ sym (ap (λ (r : Reading). plans.answered r I output costs choices) reads)
+  same-planned output costs choices span =
+      ap (λ (r : Reading). plans.answered r (instance copy) output costs choices span) (same .0 .1)
+      ∙ ap (λ (J : Instance). lent (first-applying (lender-rules (J .r) (entries J) output costs choices span)) J) (same .1)
+      ∙ sym (ap (λ (r : Reading). plans.answered r I output costs choices span) reads)
 
   pub same-checked : (plan : List ℕ) → checked copy plan ≡ checked bytes plan
   unfolding checked checked-after

@@ -3,26 +3,24 @@ use Prim.Native.Nat.{ℕ, zero, suc, _+_, _-_, _*_, _^_, _≤_, _<_}
 use native.Mathlib.Omega.{arith}
 use mathlib.Core.Logic.{_↔_, _⊎_, inl, inr}
 use mathlib.Core.Path.{_≡_, refl, sym, ap, _∙_, subst}
-use mathlib.Core.Bool.{Bool, true, false, cond}
-use mathlib.Core.List.{List, [], _∷_, _++_}
-use lib.ListN.{length, getD, take, drop, replicate, length-replicate, getD-replicate, List·getD-append}
+use mathlib.Core.Bool.{true, false}
+use mathlib.Core.List.{List, [], _∷_}
+use lib.ListN.{length, getD, take, drop, replicate, length-replicate}
 use lib.Seq.{take-at}
-use borrow.Author.Tests.{eqb-true}
-use Rattle.finite.proofs.Booleans.{clash}
-use Rattle.finite.proofs.Fronts.{front-length, front-behind}
+use Rattle.finite.proofs.Middles.{mid-part}
 use Rattle.subsets.specs.Costs.{Cost, none, some}
 use Rattle.subsets.specs.Order.{NotAfter}
 use Rattle.subsets.specs.Inner.Count.{triples, pairs}
 use Rattle.subsets.proofs.Count.{triples-le}
 use Rattle.subsets.proofs.Provided.{provided-some}
 use Rattle.sheet.specs.Instance.{Instance, WellFormed, instance}
-use Rattle.sheet.specs.Refusals.{one-of, first-applying, refusal, number-of}
+use Rattle.sheet.specs.Refusals.{Rule, one-of, first-applying, refusal, number-of}
 use Rattle.sheet.specs.Reading.{reader-numbers, reading}
 use Rattle.sheet.specs.declared.Sheet.{Sheet}
 use Rattle.sheet.specs.declared.Refusal.{Refusal}
 use Rattle.sheet.specs.declared.Reading.{Reading}
 use Rattle.sheet.specs.declared.Reading.the-variants as readings
-use Rattle.sheet.proofs.Groups.{number-refusal, own-group, reading-group, one-of-left, first-listed, reading-number}
+use Rattle.sheet.proofs.Groups.{number-refusal, own-group, reading-group, one-of-left, listed, first-listed, reading-number}
 use Rattle.sheet.proofs.Promises.{well-formed}
 use Rattle.embedding.specs.Definition1.{Feasible, cost}
 use Rattle.embedding.specs.Limits.{Limits}
@@ -37,17 +35,22 @@ use Rattle.checker.specs.Check.{checked}
 use Rattle.checker.specs.declared.Checked.the-variants as checks
 use Rattle.checker.proofs.Answers.{accepted-iff}
 use Rattle.planner.specs.Answers as plans
-use Rattle.planner.specs.Answers.{number, entries, lender-rules, Enough, plan-numbers, solved, lent, planned}
+use Rattle.lending.specs.Rules.{lender-rules}
+use Rattle.lending.specs.declared.Span.{Span}
+use Rattle.lending.proofs.Rules.{enough-iff}
+use Rattle.lending.proofs.Spans.{replaced-front}
+use Rattle.planner.specs.Answers.{number, entries, Enough, plan-numbers, solved, lent, planned}
 use Rattle.planner.specs.Lent.{used, front-after, table-after, OutputAfter}
 use Rattle.planner.specs.Kept as kept
 use Rattle.planner.specs.Kept.{kept-costs, kept-choices}
 use Rattle.planner.specs.Inner.Tables.{cost-entry, choice-entry}
 use Rattle.planner.specs.declared.Planned.{Planned}
 use Rattle.planner.specs.declared.Planned.the-variants.{Plan, Refused}
-use Rattle.planner.proofs.Order.{enough-iff}
+use Rattle.planner.proofs.Solved.{accepted-solved, used-solved}
+use Rattle.planner.proofs.After.{after-used, after-unused, after-length, after-others}
 use Rattle.edit.proofs.Tables.{table-length, kept-after}
 use Rattle.theorems.proofs.Lent.{front-written}
-use Rattle.theorems.specs.Promised.{Given, Best, Cleared, Written, Left, KeptLeft}
+use Rattle.theorems.specs.Promised.{Given, Best, Stays, Cleared, Written, Left, KeptLeft}
 
 -- ---- the number of a refusal
 
@@ -59,7 +62,7 @@ reader-given : (bytes : List ℕ) (f : Refusal) → reading bytes ≡ readings.R
 reader-given bytes f e =
     record {
       grouped = reading-group bytes f e;
-      listed = one-of-left reader-numbers (10 ∷ 11 ∷ 12 ∷ []) (number-of f) (reading-number bytes f e);
+      listed = one-of-left reader-numbers (10 ∷ 24 ∷ 11 ∷ 12 ∷ []) (number-of f) (reading-number bytes f e);
     }
 
 -- ---- every answer of the planner
@@ -75,58 +78,28 @@ solved-answered none n =
     inr (refusal 12, n, refl, given 12 refl, λ h. absurd (h (number-refusal 12)))
 solved-answered (some k) n = inl (k, n, refl)
 
-lent-answered : (I : Instance) (output costs choices m : ℕ) → first-applying (lender-rules I output costs choices) ≡ m → Answered (lent m I)
-lent-answered I output costs choices zero e = solved-answered (cheapest I) (weighed I)
-lent-answered I output costs choices (suc n) e =
-    inr (refusal (suc n), 0, refl, given (suc n) (first-listed (one-of plan-numbers) (lender-rules I output costs choices) refl n e), λ h. refl)
+lent-answered : (I : Instance) (rules : List Rule) → listed (one-of plan-numbers) rules ≡ true → (m : ℕ) → first-applying rules ≡ m → Answered (lent m I)
+lent-answered I rules l zero e = solved-answered (cheapest I) (weighed I)
+lent-answered I rules l (suc n) e = inr (refusal (suc n), 0, refl, given (suc n) (first-listed (one-of plan-numbers) rules l n e), λ h. refl)
 
-pub answered : (bytes : List ℕ) (output costs choices : ℕ) → Answered (planned bytes output costs choices)
+pub answered : (bytes : List ℕ) (output costs choices : ℕ) (span : Span) → Answered (planned bytes output costs choices span)
 unfolding planned
-answered bytes output costs choices = go (reading bytes) refl
+answered bytes output costs choices span = go (reading bytes) refl
   where
-    go : (r : Reading) → reading bytes ≡ r → Answered (plans.answered r (instance bytes) output costs choices)
+    go : (r : Reading) → reading bytes ≡ r → Answered (plans.answered r (instance bytes) output costs choices span)
     go (readings.Refused f) e = inr (f, 0, refl, reader-given bytes f e, λ h. refl)
     go (readings.Accepted h) e =
-        lent-answered (instance bytes) output costs choices (first-applying (lender-rules (instance bytes) output costs choices)) refl
+        let rules : List Rule = lender-rules (instance bytes .r) (entries (instance bytes)) output costs choices span in
+        lent-answered (instance bytes) rules refl (first-applying rules) refl
 
 -- ---- a plan or 12
 
--- the planner came to plan: the reader accepted, and the memory was enough
-record Solved (bytes : List ℕ) (output costs choices : ℕ) : Type 0 where
-  sheet : Sheet
-  reads : reading bytes ≡ readings.Accepted sheet
-  enough : Enough (instance bytes) output costs choices
-
--- on an accepted sheet with memory enough the cheapest cost decides
-pub accepted-solved :
-    (bytes : List ℕ) (h : Sheet) → reading bytes ≡ readings.Accepted h →
-    (output costs choices : ℕ) → Enough (instance bytes) output costs choices →
-    planned bytes output costs choices ≡ solved (cheapest (instance bytes)) (weighed (instance bytes))
-unfolding planned
-accepted-solved bytes h e output costs choices enough =
-    ap (λ (r : Reading). plans.answered r (instance bytes) output costs choices) e ∙ ap (λ (m : ℕ). lent m (instance bytes)) enough
-
--- a plan and 12 come of nothing else
-used-solved : (bytes : List ℕ) (output costs choices : ℕ) → used (planned bytes output costs choices) ≡ true → Solved bytes output costs choices
-unfolding planned
-used-solved bytes output costs choices u = go (reading bytes) refl u
-  where
-    lender : (h : Sheet) → reading bytes ≡ readings.Accepted h → (m : ℕ) → first-applying (lender-rules (instance bytes) output costs choices) ≡ m → used (lent m (instance bytes)) ≡ true → Solved bytes output costs choices
-    lender h e zero q u = record { sheet = h; reads = e; enough = q }
-    lender h e (suc n) q u =
-        clash (sym (first-listed (one-of (10 ∷ 11 ∷ [])) (lender-rules (instance bytes) output costs choices) refl n q)
-        ∙ ap (one-of (10 ∷ 11 ∷ [])) (sym (number-refusal (suc n)) ∙ eqb-true (number-of (refusal (suc n))) 12 u))
-
-    go : (r : Reading) → reading bytes ≡ r → used (plans.answered r (instance bytes) output costs choices) ≡ true → Solved bytes output costs choices
-    go (readings.Accepted h) e u = lender h e (first-applying (lender-rules (instance bytes) output costs choices)) refl u
-    go (readings.Refused f) e u = clash (sym (reading-number bytes f e) ∙ ap (one-of reader-numbers) (eqb-true (number-of f) 12 u))
-
 -- the cheapest cost is the one answered
-pub plan-cheapest : (bytes : List ℕ) (output costs choices k n : ℕ) → planned bytes output costs choices ≡ Plan k n →
-    (h : Sheet) × (reading bytes ≡ readings.Accepted h) × Enough (instance bytes) output costs choices × (cheapest (instance bytes) ≡ some k)
-plan-cheapest bytes output costs choices k n e =
-    let s = used-solved bytes output costs choices (ap used e) in
-    (s .sheet, s .reads, s .enough, go (cheapest (instance bytes)) (sym (accepted-solved bytes (s .sheet) (s .reads) output costs choices (s .enough)) ∙ e))
+pub plan-cheapest : (bytes : List ℕ) (output costs choices : ℕ) (span : Span) (k n : ℕ) → planned bytes output costs choices span ≡ Plan k n →
+    (h : Sheet) × (reading bytes ≡ readings.Accepted h) × Enough (instance bytes) output costs choices span × (cheapest (instance bytes) ≡ some k)
+plan-cheapest bytes output costs choices span k n e =
+    let s = used-solved bytes output costs choices span (ap used e) in
+    (s .sheet, s .reads, s .enough, go (cheapest (instance bytes)) (sym (accepted-solved bytes output costs choices span s) ∙ e))
   where
     go : (f : Cost) → solved f (weighed (instance bytes)) ≡ Plan k n → f ≡ some k
     go none q = absurd (let z : _≡_ {A = ℕ} 0 1 = cc in omega arith)
@@ -148,9 +121,9 @@ module _ (I : Instance) (W : WellFormed I) where
 
 pub best-answer :
     (bytes : List ℕ) (h : Sheet) → reading bytes ≡ readings.Accepted h →
-    (output costs choices : ℕ) → Enough (instance bytes) output costs choices → Best (instance bytes) (planned bytes output costs choices)
-best-answer bytes h reads output costs choices enough =
-    subst (Best (instance bytes)) (sym (accepted-solved bytes h reads output costs choices enough))
+    (output costs choices : ℕ) (span : Span) → Enough (instance bytes) output costs choices span → Best (instance bytes) (planned bytes output costs choices span)
+best-answer bytes h reads output costs choices span enough =
+    subst (Best (instance bytes)) (sym (accepted-solved bytes output costs choices span record { sheet = h; reads = reads; enough = enough }))
     (best (instance bytes) (well-formed bytes h reads) (cheapest (instance bytes)) refl)
 
 -- a best answer is a plan exactly when there is a mapping
@@ -173,17 +146,17 @@ first-written I k n output output' o i l = ap (λ (list : List ℕ). getD list i
 
 -- it is a valid plan at the cost answered
 pub written :
-    (bytes output output' : List ℕ) (costs choices k n : ℕ) →
-    planned bytes (length output) costs choices ≡ Plan k n →
+    (bytes output output' : List ℕ) (costs choices : ℕ) (span : Span) (k n : ℕ) →
+    planned bytes (length output) costs choices span ≡ Plan k n →
     OutputAfter (instance bytes) (Plan k n) output output' →
     (h : Sheet) × (reading bytes ≡ readings.Accepted h)
     × (length (take (instance bytes .r) output') ≡ instance bytes .r)
     × (valid (instance bytes) (place (take (instance bytes .r) output')) ≡ true)
     × (plan-cost (instance bytes) (place (take (instance bytes .r) output')) ≡ k)
 unfolding worth
-written bytes output output' costs choices k n e o =
+written bytes output output' costs choices span k n e o =
     let I = instance bytes in
-    let s = plan-cheapest bytes (length output) costs choices k n e in
+    let s = plan-cheapest bytes (length output) costs choices span k n e in
     let W = well-formed bytes (s .0) (s .1) in
     let same = worth-ext I W (place (take (I .r) output')) (first-plan I) (first-written I k n output output' o) in
     let p =
@@ -193,24 +166,24 @@ written bytes output output' costs choices k n e o =
 
 -- the check accepts it at that cost
 pub accepted :
-    (bytes output output' : List ℕ) (costs choices k n : ℕ) →
-    planned bytes (length output) costs choices ≡ Plan k n →
+    (bytes output output' : List ℕ) (costs choices : ℕ) (span : Span) (k n : ℕ) →
+    planned bytes (length output) costs choices span ≡ Plan k n →
     OutputAfter (instance bytes) (Plan k n) output output' →
     checked bytes (take (instance bytes .r) output') ≡ checks.Accepted k
-accepted bytes output output' costs choices k n e o =
-    let p = written bytes output output' costs choices k n e o in
+accepted bytes output output' costs choices span k n e o =
+    let p = written bytes output output' costs choices span k n e o in
     accepted-iff bytes (p .0) (p .1) (take (instance bytes .r) output') k .1 (p .2, p .3, p .4)
 
 -- no mapping of that cost comes before it
 pub none-before :
-    (bytes output output' : List ℕ) (costs choices k n : ℕ) →
-    planned bytes (length output) costs choices ≡ Plan k n →
+    (bytes output output' : List ℕ) (costs choices : ℕ) (span : Span) (k n : ℕ) →
+    planned bytes (length output) costs choices span ≡ Plan k n →
     OutputAfter (instance bytes) (Plan k n) output output' →
     (π : ℕ → ℕ) (ρ : ℕ → List ℕ) → Feasible (road (instance bytes)) π ρ → Limits (instance bytes) π ρ → cost (road (instance bytes)) π ρ ≡ k →
     NotAfter (instance bytes .r) (place (take (instance bytes .r) output')) π
-none-before bytes output output' costs choices k n e o π ρ feasible limits same =
+none-before bytes output output' costs choices span k n e o π ρ feasible limits same =
     let I = instance bytes in
-    let s = plan-cheapest bytes (length output) costs choices k n e in
+    let s = plan-cheapest bytes (length output) costs choices span k n e in
     let at = first-written I k n output output' o in
     λ i l before.
     subst (λ (c : ℕ). c ≤ π i) (sym (at i l))
@@ -218,81 +191,99 @@ none-before bytes output output' costs choices k n e o π ρ feasible limits sam
 
 -- ---- the memory lent
 
--- a table whose first n entries are cleared
-cleared : (n : ℕ) (table : List ℕ) → n ≤ length table → Cleared n table (replicate n 0 ++ drop n table)
-cleared n table h =
-    let front : List ℕ = replicate n 0 in
-    let zeros : length front ≡ n = length-replicate n 0 in
-    record {
-      there = h;
-      length-stays = front-length n front table zeros h;
-      first = λ i l. List·getD-append front (drop n table) 1 i (omega arith) ∙ getD-replicate n i 0 1 l;
-      rest = front-behind n front table zeros;
-    }
-
 -- the output with a plan in it
 output-written : (I : Instance) (k n : ℕ) (output output' : List ℕ) → I .r ≤ length output → OutputAfter I (Plan k n) output output' → Written (I .r) output output'
 output-written I k n output output' h o =
     front-written (I .r) (places (I .r) (first-plan I)) output output' (places-length (I .r) (first-plan I)) h o
 
--- a table after a call, where it was used and where it was not
-front-is : (I : Instance) (a : Planned) (front table : List ℕ) (b : Bool) → used a ≡ b → front-after I a front table ≡ cond b (front ++ drop (entries I) table) table
-front-is I a front table b h = ap (λ (c : Bool). cond c (front ++ drop (entries I) table) table) h
+module _ (bytes output costs choices output' : List ℕ) (span : Span) (a : Planned)
+    (e : a ≡ planned bytes (length output) (length costs) (length choices) span) where
+  abbrev I : Instance
+  I = instance bytes
 
-module _ (bytes output costs choices output' : List ℕ) (a : Planned) (e : a ≡ planned bytes (length output) (length costs) (length choices)) where
   -- the memory was enough for a plan or 12
-  room : used a ≡ true → (instance bytes .r ≤ length output) × (entries (instance bytes) ≤ length costs) × (entries (instance bytes) ≤ length choices)
+  room : used a ≡ true → (I .r ≤ length output) × (span .first + span .number ≤ length costs) × (span .first + span .number ≤ length choices) × (entries I ≤ span .number)
   room h =
-      let s = used-solved bytes (length output) (length costs) (length choices) (sym (ap used e) ∙ h) in
-      enough-iff (instance bytes) (length output) (length costs) (length choices) .0 (s .enough)
+      let s = used-solved bytes (length output) (length costs) (length choices) span (sym (ap used e) ∙ h) in
+      enough-iff (I .r) (entries I) (length output) (length costs) (length choices) span .0 (s .enough)
 
-  module _ (o : OutputAfter (instance bytes) a output output') where
-    planned-output : (k n : ℕ) → a ≡ Plan k n → Written (instance bytes .r) output output'
-    planned-output k n p =
-        output-written (instance bytes) k n output output' (room (ap used p) .0) (subst (λ (b : Planned). OutputAfter (instance bytes) b output output') p o)
+  room-of-costs : used a ≡ true → (span .first + span .number ≤ length costs) × (entries I ≤ span .number)
+  room-of-costs h = let n = room h in (n .1, n .3)
+
+  room-of-choices : used a ≡ true → (span .first + span .number ≤ length choices) × (entries I ≤ span .number)
+  room-of-choices h = let n = room h in (n .2, n .3)
+
+  module _ (o : OutputAfter I a output output') where
+    planned-output : (k n : ℕ) → a ≡ Plan k n → Written (I .r) output output'
+    planned-output k n p = output-written I k n output output' (room (ap used p) .0) (subst (λ (b : Planned). OutputAfter I b output output') p o)
 
     refused-output : (f : Refusal) (n : ℕ) → a ≡ Refused f n → output' ≡ output
-    refused-output f n p = subst (λ (b : Planned). OutputAfter (instance bytes) b output output') p o
+    refused-output f n p = subst (λ (b : Planned). OutputAfter I b output output') p o
+
+-- one table after a call that leaves these entries in front of the span
+module _ (I : Instance) (a : Planned) (span : Span) (front table table' : List ℕ) (long : length front ≡ entries I)
+    (room : used a ≡ true → (span .first + span .number ≤ length table) × (entries I ≤ span .number)) (after : table' ≡ front-after I a span front table) where
+  table-stays : used a ≡ true → Stays (span .first) (entries I) table table'
+  table-stays h = record {
+    there = omega (arith, room h .0, room h .1);
+    length-stays = ap length after ∙ after-length I a span front table long room;
+    others = λ i l. ap (λ (t : List ℕ). getD t i 0) after ∙ after-others I a span front table long room i l;
+  }
+
+  table-front : used a ≡ true → take (entries I) (drop (span .first) table') ≡ front
+  table-front h =
+      ap (λ (t : List ℕ). take (entries I) (drop (span .first) t)) (after ∙ after-used I a span front table long room h ∙ replaced-front span table (room h .0) front (entries I) (room h .1))
+      ∙ mid-part (span .first) (entries I) table front (omega (arith, room h .0, room h .1)) long
+
+  table-unused : used a ≡ false → table' ≡ table
+  table-unused h = after ∙ after-unused I a span front table long room h
 
 -- the memory after a planning call
 pub left :
-    (bytes output costs choices output' costs' choices' : List ℕ) (a : Planned) →
-    a ≡ planned bytes (length output) (length costs) (length choices) →
+    (bytes output costs choices output' costs' choices' : List ℕ) (span : Span) (a : Planned) →
+    a ≡ planned bytes (length output) (length costs) (length choices) span →
     OutputAfter (instance bytes) a output output' →
-    costs' ≡ table-after (instance bytes) a costs →
-    choices' ≡ table-after (instance bytes) a choices →
-    Left (instance bytes) a output costs choices output' costs' choices'
-left bytes output costs choices output' costs' choices' a e o t u =
+    costs' ≡ table-after (instance bytes) a span costs →
+    choices' ≡ table-after (instance bytes) a span choices →
+    Left (instance bytes) a span output costs choices output' costs' choices'
+left bytes output costs choices output' costs' choices' span a e o t u =
     let I = instance bytes in
     let zeros : List ℕ = replicate (entries I) 0 in
+    let long : length zeros ≡ entries I = length-replicate (entries I) 0 in
+    let ct = room-of-costs bytes output costs choices output' span a e in
+    let cu = room-of-choices bytes output costs choices output' span a e in
     record {
-      cleared = λ h. let n = room bytes output costs choices output' a e h in (
-        subst (Cleared (entries I) costs) (sym (t ∙ front-is I a zeros costs true h)) (cleared (entries I) costs (n .1)),
-        subst (Cleared (entries I) choices) (sym (u ∙ front-is I a zeros choices true h)) (cleared (entries I) choices (n .2)),
+      cleared = λ h. (
+        record { zeros = table-front I a span zeros costs costs' long ct t h; stays = table-stays I a span zeros costs costs' long ct t h },
+        record { zeros = table-front I a span zeros choices choices' long cu u h; stays = table-stays I a span zeros choices choices' long cu u h },
       );
-      untouched = λ h. (t ∙ front-is I a zeros costs false h, u ∙ front-is I a zeros choices false h);
-      planned = planned-output bytes output costs choices output' a e o;
-      refused = refused-output bytes output costs choices output' a e o;
+      untouched = λ h. (table-unused I a span zeros costs costs' long ct t h, table-unused I a span zeros choices choices' long cu u h);
+      planned = planned-output bytes output costs choices output' span a e o;
+      refused = refused-output bytes output costs choices output' span a e o;
     }
 
 -- the memory after a keeping call
 pub left-kept :
-    (bytes output costs choices output' costs' choices' : List ℕ) (a : Planned) →
-    a ≡ planned bytes (length output) (length costs) (length choices) →
+    (bytes output costs choices output' costs' choices' : List ℕ) (span : Span) (a : Planned) →
+    a ≡ planned bytes (length output) (length costs) (length choices) span →
     OutputAfter (instance bytes) a output output' →
-    costs' ≡ front-after (instance bytes) a (kept-costs (instance bytes)) costs →
-    choices' ≡ front-after (instance bytes) a (kept-choices (instance bytes)) choices →
-    KeptLeft (instance bytes) a output costs choices output' costs' choices'
+    costs' ≡ front-after (instance bytes) a span (kept-costs (instance bytes)) costs →
+    choices' ≡ front-after (instance bytes) a span (kept-choices (instance bytes)) choices →
+    KeptLeft (instance bytes) a span output costs choices output' costs' choices'
 unfolding kept.kept-costs kept.kept-choices
-left-kept bytes output costs choices output' costs' choices' a e o t u =
+left-kept bytes output costs choices output' costs' choices' span a e o t u =
     let I = instance bytes in
+    let ct = room-of-costs bytes output costs choices output' span a e in
+    let cu = room-of-choices bytes output costs choices output' span a e in
+    let lt = table-length I (cost-entry I) in
+    let lu = table-length I (choice-entry I) in
     record {
-      kept = λ h. let n = room bytes output costs choices output' a e h in (
-        kept-after I a costs choices costs' choices' h t u,
-        front-written (entries I) (kept-costs I) costs costs' (table-length I (cost-entry I)) (n .1) (t ∙ front-is I a (kept-costs I) costs true h),
-        front-written (entries I) (kept-choices I) choices choices' (table-length I (choice-entry I)) (n .2) (u ∙ front-is I a (kept-choices I) choices true h),
+      kept = λ h. (
+        kept-after I a span costs choices costs' choices' h (ct h .0) (cu h .0) (ct h .1) t u,
+        table-stays I a span (kept-costs I) costs costs' lt ct t h,
+        table-stays I a span (kept-choices I) choices choices' lu cu u h,
       );
-      untouched = λ h. (t ∙ front-is I a (kept-costs I) costs false h, u ∙ front-is I a (kept-choices I) choices false h);
-      planned = planned-output bytes output costs choices output' a e o;
-      refused = refused-output bytes output costs choices output' a e o;
+      untouched = λ h. (table-unused I a span (kept-costs I) costs costs' lt ct t h, table-unused I a span (kept-choices I) choices choices' lu cu u h);
+      planned = planned-output bytes output costs choices output' span a e o;
+      refused = refused-output bytes output costs choices output' span a e o;
     }

@@ -20,6 +20,7 @@ use Rattle.bill.specs.Answers.{billed}
 use Rattle.bill.specs.declared.tariff.Tariff.{Tariff}
 use Rattle.bill.specs.declared.Billed.{Billed}
 use Rattle.bill.specs.declared.Billed.the-variants as bill
+use Rattle.lending.specs.Spans.{span-of}
 use Rattle.planner.specs.Answers as planner
 use Rattle.planner.specs.Answers.{entries, cost, planned}
 use Rattle.planner.specs.Lent.{used}
@@ -54,9 +55,9 @@ pub data Case : Type 0 where
   -- the keeping call, with memory that just suffices: it uses the tables, and this is what it leaves in the cost table and in the choice table
   keeps : List ℕ → List ℕ → List ℕ → Case
 
--- the planner's answer where the output has r places and each table s × 2^r entries
+-- the planner's answer where the output has r places and each table s × 2^r entries, all of them in the span
 abbrev pub answer-to : List ℕ → Planned
-answer-to bytes = planned bytes (instance bytes .r) (entries (instance bytes)) (entries (instance bytes))
+answer-to bytes = planned bytes (instance bytes .r) (entries (instance bytes)) (entries (instance bytes)) (span-of 0 (entries (instance bytes)))
 
 -- of all s^r plans, those that are valid and cost k put service i on cabinet c
 abbrev pub all-put : Instance → ℕ → ℕ → ℕ → Bool

@@ -1,10 +1,10 @@
 -- The words of the demands: a refusal as it is given, a mapping of least cost, and memory after a call.
-use Prim.Native.Nat.{ℕ, _≤_, _<_}
+use Prim.Native.Nat.{ℕ, _+_, _≤_, _<_}
 use mathlib.Core.Logic.{_⊎_}
 use mathlib.Core.Path.{_≡_}
 use mathlib.Core.Bool.{true, false}
 use mathlib.Core.List.{List}
-use lib.ListN.{length, getD, take}
+use lib.ListN.{length, getD, take, drop, replicate}
 use Rattle.sheet.specs.Refusals.{one-of, refusal, number-of}
 use Rattle.sheet.specs.Instance.{Instance}
 use Rattle.sheet.specs.declared.Refusal.{Refusal}
@@ -12,6 +12,8 @@ use Rattle.embedding.specs.Definition1.{Feasible, cost}
 use Rattle.embedding.specs.Limits.{Limits}
 use Rattle.embedding.specs.Road.{road}
 use Rattle.embedding.specs.Splits.{weighed}
+use Rattle.lending.specs.Spans.{within}
+use Rattle.lending.specs.declared.Span.{Span}
 use Rattle.planner.specs.Answers.{entries}
 use Rattle.planner.specs.Lent.{used}
 use Rattle.planner.specs.Kept.{Kept}
@@ -47,12 +49,16 @@ Best I a =
     ((k : ℕ) × (a ≡ Plan k (weighed I)) × ((π : ℕ → ℕ) × Maps I π k) × NoneCheaper I k)
     ⊎ ((a ≡ Refused (refusal 12) (weighed I)) × NoMapping I)
 
--- the first n entries of a table are 0 now, and all others stay
-pub record Cleared (n : ℕ) (table table' : List ℕ) : Type 0 where
-  pub there : n ≤ length table
+-- all entries of a table stay but the n from this first one on
+pub record Stays (first n : ℕ) (table table' : List ℕ) : Type 0 where
+  pub there : first + n ≤ length table
   pub length-stays : length table' ≡ length table
-  pub first : (i : ℕ) → i < n → getD table' i 1 ≡ 0
-  pub rest : (i : ℕ) → n ≤ i → getD table' i 0 ≡ getD table i 0
+  pub others : (i : ℕ) → (i < first) ⊎ (first + n ≤ i) → getD table' i 0 ≡ getD table i 0
+
+-- those are 0 now, and all others stay
+pub record Cleared (first n : ℕ) (table table' : List ℕ) : Type 0 where
+  pub zeros : take n (drop first table') ≡ replicate n 0
+  pub stays : Stays first n table table'
 
 -- the first n places of the output may be written, and all others stay
 pub record Written (n : ℕ) (output output' : List ℕ) : Type 0 where
@@ -61,15 +67,16 @@ pub record Written (n : ℕ) (output output' : List ℕ) : Type 0 where
   pub rest : (i : ℕ) → n ≤ i → getD output' i 0 ≡ getD output i 0
 
 -- what a planning call leaves in the memory lent, by its answer: the tables are used with a plan and with 12
-pub record Left (I : Instance) (a : Planned) (output costs choices output' costs' choices' : List ℕ) : Type 0 where
-  pub cleared : used a ≡ true → Cleared (entries I) costs costs' × Cleared (entries I) choices choices'
+pub record Left (I : Instance) (a : Planned) (span : Span) (output costs choices output' costs' choices' : List ℕ) : Type 0 where
+  pub cleared : used a ≡ true → Cleared (span .first) (entries I) costs costs' × Cleared (span .first) (entries I) choices choices'
   pub untouched : used a ≡ false → (costs' ≡ costs) × (choices' ≡ choices)
   pub planned : (k n : ℕ) → a ≡ Plan k n → Written (I .r) output output'
   pub refused : (f : Refusal) (n : ℕ) → a ≡ Refused f n → output' ≡ output
 
--- what a keeping call leaves in the memory lent, by its answer: with a plan and with 12 both tables are kept of the instance
-pub record KeptLeft (I : Instance) (a : Planned) (output costs choices output' costs' choices' : List ℕ) : Type 0 where
-  pub kept : used a ≡ true → Kept I costs' choices' × Written (entries I) costs costs' × Written (entries I) choices choices'
+-- what a keeping call leaves in the memory lent, by its answer: with a plan and with 12 the entries of the span are kept of the instance
+pub record KeptLeft (I : Instance) (a : Planned) (span : Span) (output costs choices output' costs' choices' : List ℕ) : Type 0 where
+  pub kept : used a ≡ true
+      → Kept I (within span costs') (within span choices') × Stays (span .first) (entries I) costs costs' × Stays (span .first) (entries I) choices choices'
   pub untouched : used a ≡ false → (costs' ≡ costs) × (choices' ≡ choices)
   pub planned : (k n : ℕ) → a ≡ Plan k n → Written (I .r) output output'
   pub refused : (f : Refusal) (n : ℕ) → a ≡ Refused f n → output' ≡ output
