@@ -3,4 +3,6 @@ pub mod Changing
 pub mod Before
 pub mod Tables
 pub mod Accepting
+pub mod Lists
+pub mod Roads
 mod Reworking
