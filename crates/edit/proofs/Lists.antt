@@ -38,7 +38,7 @@ use Rattle.edit.proofs.Tables.{table-length, kept-after}
 -- ---- a call that leaves entries in front of the span, if it uses the tables
 
 -- the memory has room for the rows of the call
-pub record Room (d : Call) : Type 0 where
+record Room (d : Call) : Type 0 where
   pub costs : d .span .first + d .span .number ≤ length (d .costs)
   pub choices : d .span .first + d .span .number ≤ length (d .choices)
   pub rows : entries (asked d) ≤ d .span .number
@@ -51,7 +51,7 @@ room-of d e =
 
 module _ (d : Call) (front back : List ℕ) (L : Leaves d front back) where
   -- tables that were used have room
-  pub leaves-room : used (d .answer) ≡ true → Room d
+  leaves-room : used (d .answer) ≡ true → Room d
   leaves-room u =
       room-of d (used-solved (d .sheet) (length (d .output)) (length (d .costs)) (length (d .choices)) (d .span) (sym (ap used (L .answer)) ∙ u) .enough)
 
@@ -64,14 +64,14 @@ module _ (d : Call) (front back : List ℕ) (L : Leaves d front back) where
     choices-room u = (leaves-room u .choices, leaves-room u .rows)
 
     -- tables that were not used are as they were
-    pub leaves-unused : used (d .answer) ≡ false → (d .costs' ≡ d .costs) × (d .choices' ≡ d .choices)
+    leaves-unused : used (d .answer) ≡ false → (d .costs' ≡ d .costs) × (d .choices' ≡ d .choices)
     leaves-unused u = (
       L .costs-after ∙ after-unused (asked d) (d .answer) (d .span) front (d .costs) long costs-room u,
       L .choices-after ∙ after-unused (asked d) (d .answer) (d .span) back (d .choices) long' choices-room u,
     )
 
     -- the lengths stay
-    pub leaves-lengths : (length (d .costs') ≡ length (d .costs)) × (length (d .choices') ≡ length (d .choices))
+    leaves-lengths : (length (d .costs') ≡ length (d .costs)) × (length (d .choices') ≡ length (d .choices))
     leaves-lengths = (
       ap length (L .costs-after) ∙ after-length (asked d) (d .answer) (d .span) front (d .costs) long costs-room,
       ap length (L .choices-after) ∙ after-length (asked d) (d .answer) (d .span) back (d .choices) long' choices-room,
@@ -93,7 +93,7 @@ module _ (d : Call) (front back : List ℕ) (L : Leaves d front back) where
     )
 
     -- so does all that is outside the span
-    pub leaves-outside : (i : ℕ) → (i < d .span .first) ⊎ (d .span .first + d .span .number ≤ i) → stays (d .costs) (d .costs') i × stays (d .choices) (d .choices') i
+    leaves-outside : (i : ℕ) → (i < d .span .first) ⊎ (d .span .first + d .span .number ≤ i) → stays (d .costs) (d .costs') i × stays (d .choices) (d .choices') i
     leaves-outside i h = go (used (d .answer)) refl h
       where
         go : (b : Bool) → used (d .answer) ≡ b → (i < d .span .first) ⊎ (d .span .first + d .span .number ≤ i) → stays (d .costs) (d .costs') i × stays (d .choices) (d .choices') i
@@ -205,6 +205,11 @@ module _ (d : Call) (z : number-before d ≡ 0) (K : Keeps d) where
   pub fresh-used : used (d .answer) ≡ true
   fresh-used = ap used fresh-solved ∙ solved-used (cheapest (asked d)) (weighed (asked d))
 
+  -- and the span's entries are kept of its instance
+  pub fresh-kept : Kept (asked d) (within (d .span) (d .costs')) (within (d .span) (d .choices'))
+  fresh-kept = keeps-kept d K fresh-used
+
+  -- and all is as the list's edits promise
   pub fresh-as : AsFresh d
   fresh-as = record {
     refused = λ n. absurd (n z);
@@ -261,6 +266,7 @@ module _ (l : Last) (d : Call) (H : Holds l (within (d .span) (d .costs)) (withi
       go zero q = fresh-as d q (edit-keeps E A q)
       go (suc n) q = refused-as d E n q
 
+  -- after a call that does as a keeping call they are kept of its instance, if it used the tables
   keeps-holds : Keeps d → After (next l keeping d)
   keeps-holds K = by-use (taken (asked d)) (keeps-kept d K) (leaves-unused d _ _ K (kept-costs-long (asked d)) (kept-choices-long (asked d)))
 
@@ -276,7 +282,7 @@ module _ (l : Last) (d : Call) (H : Holds l (within (d .span) (d .costs)) (withi
           let R = refusing d D n q in
           by-use (taken (asked d)) (λ u. clash (sym u ∙ R .unused)) (λ u. (R .untouched .costs, R .untouched .choices))
 
--- the same for a call on the span s
+-- the same, said of the span s that the call is on
 module _ (s : Span) (l : Last) (d : Call) (on : d .span ≡ s) where
   pub holds-now : Holds l (within s (d .costs)) (within s (d .choices)) → Holds l (within (d .span) (d .costs)) (within (d .span) (d .choices))
   holds-now H = subst (λ (s : Span). Holds l (within s (d .costs)) (within s (d .choices))) (sym on) H

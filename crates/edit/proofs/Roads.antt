@@ -1,6 +1,5 @@
 -- Two roads in one pair of tables: what comes of one road's calls is what comes of its own calls alone, whatever the other road's calls are.
 use Prim.Native.Nat.{ℕ, zero, suc}
-use native.Mathlib.Omega.{arith}
 use mathlib.Core.Path.{_≡_, refl, sym, ap, ap₂, _∙_, subst, subst₂}
 use mathlib.Core.Bool.{Bool, true, false, cond}
 use mathlib.Core.List.{List, [], _∷_, _++_}
@@ -9,7 +8,7 @@ use lib.ListN.{length, drop, replicate}
 use Rattle.finite.proofs.Booleans.{clash}
 use Rattle.sheet.specs.Instance.{Instance, instance}
 use Rattle.sheet.specs.Reading as reader
-use Rattle.sheet.specs.Refusals.{Rule, first-applying, refusal}
+use Rattle.sheet.specs.Refusals.{Rule, first-applying}
 use Rattle.embedding.specs.First.{first-plan, places}
 use Rattle.lending.specs.Spans.{runs-past, within, Apart}
 use Rattle.lending.specs.declared.Span.{Span}
@@ -25,25 +24,35 @@ use Rattle.edit.specs.Calls.{Call, asked, Leaves, Keeps}
 use Rattle.edit.specs.Changed.{Changed}
 use Rattle.edit.specs.Edits.{rules-before, number-before, Edits}
 use Rattle.edit.specs.Lists as lists
-use Rattle.edit.specs.Lists.{Kind, planning, keeping, editing, Does, Turn, OnSpan, Last, nothing, taken, next, Allowed, InTheRule, AllFresh}
+use Rattle.edit.specs.Lists.{Kind, planning, keeping, editing, Does, Turn, OnSpan, Last, nothing, next, Allowed, InTheRule, AllFresh}
 use Rattle.edit.specs.Roads as roads
 use Rattle.edit.specs.Roads.{Road, one, other, same-road, Shared, own, OnTables, Agree, Alike, Same, AllPairs}
-use Rattle.edit.proofs.Lists.{leaves-within, zeros-long, kept-costs-long, kept-choices-long, refusing, does-lengths, does-apart, Holds, edit-keeps, holds-now, holds-then, all-fresh}
+use Rattle.edit.proofs.Lists.{leaves-within, zeros-long, kept-costs-long, kept-choices-long, refusing, does-lengths, does-apart}
+use Rattle.edit.proofs.Lists.{Holds, edit-keeps, holds-now, holds-then, all-fresh}
 
 -- ---- two calls made alike
 
 -- two calls on the span s find the same there
-pub record Meet (s : Span) (c d : Call) : Type 0 where
+record Meet (s : Span) (c d : Call) : Type 0 where
   pub first : c .span ≡ s
   pub second : d .span ≡ s
   pub costs : Agree s (c .costs) (d .costs)
   pub choices : Agree s (c .choices) (d .choices)
+
+-- of the lengths of both tables an edit's refusal beforehand counts only whether the span runs past them
+before-past : (bytes : List ℕ) (e output : ℕ) (span : Span) (costs choices costs₂ choices₂ : ℕ)
+    → runs-past span costs ≡ runs-past span costs₂ → runs-past span choices ≡ runs-past span choices₂
+    → first-applying (rules-before bytes e output costs choices span) ≡ first-applying (rules-before bytes e output costs₂ choices₂ span)
+before-past bytes e output span costs choices costs₂ choices₂ c u =
+    ap (λ (rules : List Rule). first-applying (reader.rules bytes ++ (rules ++ (record { number = 14; applies = leb (instance bytes .s) e } ∷ []))))
+    (lender-past (instance bytes .r) (entries (instance bytes)) output span costs choices costs₂ choices₂ c u)
 
 -- the output after a call with this answer
 abbrev output-of : Instance → Planned → List ℕ → List ℕ
 output-of I (Plan k n) output = places (I .r) (first-plan I) ++ drop (I .r) output
 output-of I (Refused f n) output = output
 
+-- there is no other
 output-is : (I : Instance) (a : Planned) (output output' : List ℕ) → OutputAfter I a output output' → output' ≡ output-of I a output
 output-is I (Plan k n) output output' e = e
 output-is I (Refused f n) output output' e = e
@@ -67,6 +76,7 @@ module _ (s : Span) (x y : Turn) (A : Alike x y) (M : Meet s (x .call) (y .call)
   abbrev d : Call
   d = y .call
 
+  -- their sheets are of one instance
   instances : asked c ≡ asked d
   instances = ap instance (A .sheet)
 
@@ -83,10 +93,10 @@ module _ (s : Span) (x y : Turn) (A : Alike x y) (M : Meet s (x .call) (y .call)
   before-same : number-before c ≡ number-before d
   before-same =
       ap (λ (span : Span). first-applying (rules-before (c .sheet) (c .cabinet) (length (c .output)) (length (c .costs)) (length (c .choices)) span)) (M .first)
-      ∙ ap (λ (rules : List Rule). first-applying (reader.rules (c .sheet) ++ (rules ++ (record { number = 14; applies = leb (asked c .s) (c .cabinet) } ∷ []))))
-      (lender-past (asked c .r) (entries (asked c)) (length (c .output)) s (length (c .costs)) (length (c .choices)) (length (d .costs)) (length (d .choices)) (M .costs .past) (M .choices .past))
+      ∙ before-past (c .sheet) (c .cabinet) (length (c .output)) s (length (c .costs)) (length (c .choices)) (length (d .costs)) (length (d .choices)) (M .costs .past) (M .choices .past)
       ∙ ap₂ (λ (bytes : List ℕ) (e : ℕ). first-applying (rules-before bytes e (length (c .output)) (length (d .costs)) (length (d .choices)) s)) (A .sheet) (A .cabinet)
-      ∙ ap₂ (λ (output : List ℕ) (span : Span). first-applying (rules-before (d .sheet) (d .cabinet) (length output) (length (d .costs)) (length (d .choices)) span)) (A .output) (sym (M .second))
+      ∙ ap₂ (λ (output : List ℕ) (span : Span). first-applying (rules-before (d .sheet) (d .cabinet) (length output) (length (d .costs)) (length (d .choices)) span))
+      (A .output) (sym (M .second))
 
   -- where they leave the same rows in front of the span they come to the same
   leaves-same : (f g : Instance → List ℕ) → ((I : Instance) → length (f I) ≡ entries I) → ((I : Instance) → length (g I) ≡ entries I)
@@ -107,6 +117,7 @@ module _ (s : Span) (x y : Turn) (A : Alike x y) (M : Meet s (x .call) (y .call)
       part-same : (h : Instance → List ℕ) (p q : List ℕ) → p ≡ q → part-after (asked c) (c .answer) (h (asked c)) p ≡ part-after (asked d) (d .answer) (h (asked d)) q
       part-same h p q e = ap₂ (λ (I : Instance) (a : Planned). part-after I a (h I) p) instances answers ∙ ap (part-after (asked d) (d .answer) (h (asked d))) e
 
+  -- so it is where both do as keeping calls
   keeps-same : Keeps c → Keeps d → Same s x y
   keeps-same K N = leaves-same kept-costs kept-choices kept-costs-long kept-choices-long K N
 
@@ -157,14 +168,14 @@ OwnRun s pc pu p q (c ∷ cs) =
     × Does (c .kind) (c .call)
     × OwnRun s pc pu (within s (c .call .costs')) (within s (c .call .choices')) cs
 
--- it is one of OnSpan
+-- they are calls as in OnSpan
 run-on-span : (cs : List Turn) (s : Span) (pc pu : Bool) (p q : List ℕ) → OwnRun s pc pu p q cs → OnSpan s p q cs
 unfolding OwnRun lists.OnSpan
 run-on-span [] s pc pu p q R = tt
 run-on-span (c ∷ cs) s pc pu p q R =
     (R .0, R .2, R .3, run-on-span cs s pc pu (within s (c .call .costs')) (within s (c .call .choices')) (R .4))
 
--- the calls of the other road between them count for nothing
+-- which road a call is of
 same-road-is : (r q : Road) → same-road r q ≡ true → q ≡ r
 same-road-is one one e = refl
 same-road-is one other e = clash (sym e)
@@ -172,6 +183,7 @@ same-road-is other one e = clash (sym e)
 same-road-is other other e = refl
 
 module _ (spans : Road → Span) (apart : Apart (spans one) (spans other)) where
+  -- two roads that are not the same have spans apart
   roads-apart : (r q : Road) → same-road r q ≡ false → Apart (spans r) (spans q)
   roads-apart one one e = clash e
   roads-apart one other e = apart
@@ -179,10 +191,11 @@ module _ (spans : Road → Span) (apart : Apart (spans one) (spans other)) where
   roads-apart other other e = clash e
 
   module _ (r : Road) where
-    -- what a road sees of the tables
+    -- calls of the road from the tables t and u on, as far as it sees them
     abbrev Run : List ℕ → List ℕ → List Turn → Type 0
     Run t u cs = OwnRun (spans r) (runs-past (spans r) (length t)) (runs-past (spans r) (length u)) (within (spans r) t) (within (spans r) u) cs
 
+    -- the calls of the other road between its own leave it what it sees
     own-run : (xs : List Shared) (t u : List ℕ) → OnTables spans t u xs → Run t u (own r xs)
     unfolding OwnRun roads.OnTables roads.own
     own-run [] t u O = tt
@@ -194,10 +207,12 @@ module _ (spans : Road → Span) (apart : Apart (spans one) (spans other)) where
         lengths : (length (d .costs') ≡ length t) × (length (d .choices') ≡ length u)
         lengths = let h = does-lengths (x .turn .kind) d (O .2) in (h .0 ∙ ap length (O .1 .0), h .1 ∙ ap length (O .1 .1))
 
-        -- the road's view of the rest, with the lengths as they were
-        rest : Run (d .costs') (d .choices') (own r xs)
-            → OwnRun (spans r) (runs-past (spans r) (length t)) (runs-past (spans r) (length u)) (within (spans r) (d .costs')) (within (spans r) (d .choices')) (own r xs)
-        rest R = subst₂ (λ (m n : ℕ). OwnRun (spans r) (runs-past (spans r) m) (runs-past (spans r) n) (within (spans r) (d .costs')) (within (spans r) (d .choices')) (own r xs)) (lengths .0) (lengths .1) R
+        -- the rest of its calls, from tables of these lengths on
+        Rest : ℕ → ℕ → Type 0
+        Rest m n = OwnRun (spans r) (runs-past (spans r) m) (runs-past (spans r) n) (within (spans r) (d .costs')) (within (spans r) (d .choices')) (own r xs)
+
+        rest : Run (d .costs') (d .choices') (own r xs) → Rest (length t) (length u)
+        rest R = subst₂ Rest (lengths .0) (lengths .1) R
 
         go : (b : Bool) → same-road r (x .road) ≡ b → Run (d .costs') (d .choices') (own r xs) → Run t u (cond b (x .turn ∷ own r xs) (own r xs))
         go true e R = (
@@ -245,20 +260,20 @@ runs-same (c ∷ cs) (d ∷ ds) s pc pu p q l H O N A R = (
 -- ---- the theorems of the request
 
 module _ (spans : Road → Span) (apart : Apart (spans one) (spans other)) (r : Road) where
+  -- a road's own calls see only what agrees
+  run-agrees : (t u t₂ u₂ : List ℕ) (cs : List Turn) → Agree (spans r) t t₂ → Agree (spans r) u u₂ → Run spans apart r t₂ u₂ cs → Run spans apart r t u cs
+  run-agrees t u t₂ u₂ cs a b R =
+      subst₂ (λ (pc pu : Bool). OwnRun (spans r) pc pu (within (spans r) t) (within (spans r) u) cs) (sym (a .past)) (sym (b .past))
+      (subst₂ (λ (p q : List ℕ). OwnRun (spans r) (runs-past (spans r) (length t₂)) (runs-past (spans r) (length u₂)) p q cs) (sym (a .entries)) (sym (b .entries)) R)
+
   -- One road's answers, outputs and entries are those of its own calls alone, whatever the other road's calls are.
   pub same-alone : (t u t₂ u₂ : List ℕ) (xs ys : List Shared) → OnTables spans t u xs → OnTables spans t₂ u₂ ys → Agree (spans r) t t₂ → Agree (spans r) u u₂
       → AllPairs Alike (own r xs) (own r ys) → InTheRule nothing (own r xs) → AllPairs (Same (spans r)) (own r xs) (own r ys)
   same-alone t u t₂ u₂ xs ys O N a b A R =
-      runs-same (own r xs) (own r ys) (spans r) (runs-past (spans r) (length t)) (runs-past (spans r) (length u)) (within (spans r) t) (within (spans r) u) nothing tt
-      (own-run spans apart r xs t u O)
-      (subst₂ (λ (pc pu : Bool). OwnRun (spans r) pc pu (within (spans r) t) (within (spans r) u) (own r ys)) (sym (a .past)) (sym (b .past))
-      (subst₂ (λ (p q : List ℕ). OwnRun (spans r) (runs-past (spans r) (length t₂)) (runs-past (spans r) (length u₂)) p q (own r ys)) (sym (a .entries)) (sym (b .entries))
-      (own-run spans apart r ys t₂ u₂ N)))
-      A R
+      runs-same (own r xs) (own r ys) (spans r) _ _ _ _ nothing tt (own-run spans apart r xs t u O)
+      (run-agrees t u t₂ u₂ (own r ys) a b (own-run spans apart r ys t₂ u₂ N)) A R
 
-  -- Every edit of one road in the rule does what a keeping call does.
+  -- Every edit of one road in the rule is refused beforehand, or does what a keeping call does.
   pub roads-fresh : (t u : List ℕ) (xs : List Shared) → OnTables spans t u xs → InTheRule nothing (own r xs) → AllFresh (own r xs)
   roads-fresh t u xs O R =
-      all-fresh (own r xs) (spans r) nothing (within (spans r) t) (within (spans r) u) tt
-      (run-on-span (own r xs) (spans r) (runs-past (spans r) (length t)) (runs-past (spans r) (length u)) (within (spans r) t) (within (spans r) u) (own-run spans apart r xs t u O))
-      R
+      all-fresh (own r xs) (spans r) nothing (within (spans r) t) (within (spans r) u) tt (run-on-span (own r xs) (spans r) _ _ _ _ (own-run spans apart r xs t u O)) R
