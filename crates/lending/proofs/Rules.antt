@@ -2,7 +2,7 @@
 use Prim.Native.Nat.{ℕ, zero, suc, _+_, _≤_, _<_}
 use native.Mathlib.Omega.{arith}
 use mathlib.Core.Logic.{⊎-elim, _↔_}
-use mathlib.Core.Path.{_≡_, refl, sym, ap, _∙_}
+use mathlib.Core.Path.{_≡_, refl, sym, ap, ap₂, _∙_}
 use mathlib.Core.Bool.{Bool, true, false, _||_, cond}
 use mathlib.Core.List.{List, [], _∷_}
 use lib.Dec.{ltb}
@@ -67,6 +67,13 @@ module _ (places entries output costs choices : ℕ) (span : Span) where
   -- the number given is one of the three
   pub lender-listed : (n : ℕ) → first-applying rules ≡ suc n → one-of lender-numbers (suc n) ≡ true
   lender-listed n e = first-listed (one-of lender-numbers) rules refl n e
+
+-- of the lengths of both tables it counts only whether the span runs past them
+pub lender-past : (places entries output : ℕ) (span : Span) (costs choices costs₂ choices₂ : ℕ)
+    → runs-past span costs ≡ runs-past span costs₂ → runs-past span choices ≡ runs-past span choices₂
+    → lender-rules places entries output costs choices span ≡ lender-rules places entries output costs₂ choices₂ span
+lender-past places entries output span costs choices costs₂ choices₂ c u =
+    ap₂ (λ (p q : Bool). record { number = 10; applies = ltb output places } ∷ record { number = 24; applies = p || q } ∷ record { number = 11; applies = ltb (span .number) entries } ∷ []) c u
 
 -- what `measure` answers tells the number
 pub room-enough : (n : ℕ) → Enough ≡ room n → n ≡ 0

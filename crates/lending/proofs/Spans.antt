@@ -1,13 +1,13 @@
 -- The laws of spans: a table with other entries in the span, and two spans that do not overlap.
-use Prim.Native.Nat.{ℕ, zero, suc, _+_, _-_, _≤_, _<_}
+use Prim.Native.Nat.{ℕ, zero, suc, _+_, _-_, _≤_, _<_, min}
 use native.Mathlib.Omega.{arith}
 use mathlib.Core.Logic.{inl, inr}
 use mathlib.Core.Path.{_≡_, refl, sym, ap, _∙_}
 use mathlib.Core.Bool.{Bool, true, false, cond}
 use mathlib.Core.List.{List, [], _∷_, _++_, append-assoc}
 use lib.Dec.{ltb}
-use lib.ListN.{length, getD, take, drop, length-drop, take-append-drop}
-use lib.Seq.{getD-take, getD-drop, length-take-le, take-nil, take-take, drop-drop, drop-append-le}
+use lib.ListN.{length, getD, take, drop, length-take, length-drop, take-append-drop}
+use lib.Seq.{getD-take, getD-drop, length-take-le, take-nil, take-take, drop-drop, drop-append-le, ext-getD}
 use borrow.Rule.Slice.PartMut.{put-same, same-len-mid, take-put}
 use borrow.Author.Tests.{ltb-true, ltb-false, le-ltb}
 use Rattle.finite.proofs.Middles.{mid-part, mid-behind}
@@ -58,6 +58,19 @@ module _ (s : Span) (t : List ℕ) where
     -- the first n entries of the span
     pub front-within : (n : ℕ) → n ≤ s .number → take n (within s t) ≡ take n (drop (s .first) t)
     front-within n h = take-take n (s .number) (drop (s .first) t) h
+
+-- tables of one length with the same entries in the span have the same part in it
+pub within-same : (s : Span) (t t' : List ℕ) → length t' ≡ length t → ((i : ℕ) → s .first ≤ i → i < s .first + s .number → getD t' i 0 ≡ getD t i 0)
+    → within s t' ≡ within s t
+within-same s t t' e h = ext-getD 0 (within s t') (within s t) (long t' ∙ ap (λ (n : ℕ). min (s .number) (n - s .first)) e ∙ sym (long t)) at
+  where
+    long : (l : List ℕ) → length (within s l) ≡ min (s .number) (length l - s .first)
+    long l = length-take (s .number) (drop (s .first) l) ∙ ap (min (s .number)) (length-drop (s .first) l)
+
+    at : (i : ℕ) → i < length (within s t') → getD (within s t') i 0 ≡ getD (within s t) i 0
+    at i l =
+        let below : i < s .number = omega (arith, long t') in
+        within-at s t' i below ∙ h (s .first + i) (omega arith) (omega arith) ∙ sym (within-at s t i below)
 
 -- ---- two spans
 

@@ -6,7 +6,7 @@ use mathlib.Core.List.{List}
 use borrow.Author.Tests.{eqb-true}
 use Rattle.finite.proofs.Booleans.{clash}
 use Rattle.sheet.specs.Instance.{instance}
-use Rattle.sheet.specs.Refusals.{one-of, first-applying, refusal, number-of}
+use Rattle.sheet.specs.Refusals.{Rule, one-of, first-applying, refusal, number-of}
 use Rattle.sheet.specs.Reading.{reader-numbers, reading}
 use Rattle.sheet.specs.declared.Sheet.{Sheet}
 use Rattle.sheet.specs.declared.Reading.{Reading}
@@ -14,9 +14,10 @@ use Rattle.sheet.specs.declared.Reading.the-variants as readings
 use Rattle.sheet.proofs.Groups.{number-refusal, reading-number}
 use Rattle.embedding.specs.Plan.{cheapest}
 use Rattle.embedding.specs.Splits.{weighed}
+use Rattle.lending.specs.Spans.{runs-past}
 use Rattle.lending.specs.Rules.{lender-rules}
 use Rattle.lending.specs.declared.Span.{Span}
-use Rattle.lending.proofs.Rules.{lender-numbers, lender-listed}
+use Rattle.lending.proofs.Rules.{lender-numbers, lender-listed, lender-past}
 use Rattle.planner.specs.Answers.{entries, Enough, solved, lent, answered, planned}
 use Rattle.planner.specs.Lent.{used}
 
@@ -48,3 +49,16 @@ module _ (bytes : List ℕ) (output costs choices : ℕ) (span : Span) where
       go : (r : Reading) → reading bytes ≡ r → used (answered r (instance bytes) output costs choices span) ≡ true → Solved bytes output costs choices span
       go (readings.Accepted h) e u = lender h e (first-applying (lender-rules (instance bytes .r) (entries (instance bytes)) output costs choices span)) refl u
       go (readings.Refused f) e u = clash (sym (reading-number bytes f e) ∙ ap (one-of reader-numbers) (eqb-true (number-of f) 12 u))
+
+-- of the lengths of both tables the answer counts only whether the span runs past them
+pub planned-past : (bytes : List ℕ) (output : ℕ) (span : Span) (costs choices costs₂ choices₂ : ℕ)
+    → runs-past span costs ≡ runs-past span costs₂ → runs-past span choices ≡ runs-past span choices₂
+    → planned bytes output costs choices span ≡ planned bytes output costs₂ choices₂ span
+unfolding planned
+planned-past bytes output span costs choices costs₂ choices₂ c u = go (reading bytes)
+  where
+    go : (r : Reading) → answered r (instance bytes) output costs choices span ≡ answered r (instance bytes) output costs₂ choices₂ span
+    go (readings.Accepted h) =
+        ap (λ (rules : List Rule). lent (first-applying rules) (instance bytes))
+        (lender-past (instance bytes .r) (entries (instance bytes)) output span costs choices costs₂ choices₂ c u)
+    go (readings.Refused f) = refl
