@@ -40,7 +40,7 @@ use Rattle.edit.proofs.Before.{passed}
 use Rattle.edit.proofs.Tables.{entry-in}
 
 -- the number that is given beforehand
-abbrev number-at : List ℕ → ℕ → ℕ → ℕ → ℕ → Span → ℕ
+abbrev pub number-at : List ℕ → ℕ → ℕ → ℕ → ℕ → Span → ℕ
 number-at bytes e output costs choices span = first-applying (rules-before bytes e output costs choices span)
 
 -- ---- refused beforehand

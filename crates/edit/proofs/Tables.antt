@@ -5,10 +5,9 @@ use native.Mathlib.Omega.{arith}
 use mathlib.Core.Path.{_≡_, refl, sym, ap, ap₂, _∙_, subst}
 use mathlib.Core.Bool.{Bool, true, false, cond}
 use mathlib.Core.List.{List, _++_}
-use lib.ListN.{length, getD, take, drop, List·getD-append}
+use lib.ListN.{length, getD, take, drop}
 use lib.Pow.{pow-pos}
 use lib.Seq.{take-at, getD-take}
-use Rattle.finite.proofs.Fronts.{front-length, front-behind}
 use Rattle.subsets.specs.Tree.{under}
 use Rattle.subsets.specs.Inner.Net.{Falls}
 use Rattle.sheet.specs.Instance.{Instance}
@@ -76,41 +75,25 @@ kept-after I a span t u t' u' h ft fu n p q = record {
 -- ---- some rows put in place of others
 
 -- the rows that pass the test are those of f, the others those of a table t
-abbrev rows-of : Instance → (ℕ → Bool) → (ℕ → ℕ → ℕ) → List ℕ → List ℕ
+unfoldable pub rows-of : Instance → (ℕ → Bool) → (ℕ → ℕ → ℕ) → List ℕ → List ℕ
 rows-of J test f t = table-of J (λ c x. cond (test c) (f c x) (entry (2 ^ J .r) t c x))
 
--- and all that is behind them is t's
-unfoldable pub with-rows : Instance → (ℕ → Bool) → (ℕ → ℕ → ℕ) → List ℕ → List ℕ
-with-rows J test f t = rows-of J test f t ++ drop (entries J) t
-
 module _ (J : Instance) (test : ℕ → Bool) (f : ℕ → ℕ → ℕ) (t : List ℕ) where
-  -- its rows are s × 2^r entries
-  long : length (rows-of J test f t) ≡ entries J
-  long = table-length J (λ c x. cond (test c) (f c x) (entry (2 ^ J .r) t c x))
-
-  -- the length stays
-  pub rows-length : entries J ≤ length t → length (with-rows J test f t) ≡ length t
-  unfolding with-rows
-  rows-length h = front-length (entries J) (rows-of J test f t) t long h
-
-  -- all that is behind the rows stays
-  pub rows-behind : (i : ℕ) → entries J ≤ i → getD (with-rows J test f t) i 0 ≡ getD t i 0
-  unfolding with-rows
-  rows-behind i h = front-behind (entries J) (rows-of J test f t) t long i h
+  -- they are s × 2^r entries
+  pub rows-length : length (rows-of J test f t) ≡ entries J
+  unfolding rows-of
+  rows-length = table-length J (λ c x. cond (test c) (f c x) (entry (2 ^ J .r) t c x))
 
   -- the others stay
-  pub rows-stay : (c x : ℕ) → c < J .s → test c ≡ false → x < 2 ^ J .r → entry (2 ^ J .r) (with-rows J test f t) c x ≡ entry (2 ^ J .r) t c x
-  unfolding with-rows
+  pub rows-stay : (c x : ℕ) → c < J .s → test c ≡ false → x < 2 ^ J .r → entry (2 ^ J .r) (rows-of J test f t) c x ≡ entry (2 ^ J .r) t c x
+  unfolding rows-of
   rows-stay c x h o l =
-      List·getD-append (rows-of J test f t) (drop (entries J) t) 0 (c * 2 ^ J .r + x) (subst (λ (n : ℕ). c * 2 ^ J .r + x < n) (sym long) (entry-in J c x h l))
-      ∙ table-at J (λ c x. cond (test c) (f c x) (entry (2 ^ J .r) t c x)) c x h l
-      ∙ ap (λ (b : Bool). cond b (f c x) (entry (2 ^ J .r) t c x)) o
+      table-at J (λ c x. cond (test c) (f c x) (entry (2 ^ J .r) t c x)) c x h l ∙ ap (λ (b : Bool). cond b (f c x) (entry (2 ^ J .r) t c x)) o
 
   -- where the others are those of f too, all are
-  pub rows-whole : ((c x : ℕ) → c < J .s → test c ≡ false → x < 2 ^ J .r → entry (2 ^ J .r) t c x ≡ f c x) → with-rows J test f t ≡ table-of J f ++ drop (entries J) t
-  unfolding with-rows
-  rows-whole h =
-      ap (λ (y : List ℕ). y ++ drop (entries J) t) (places-ext (entries J) _ _ (λ i l. go (i / 2 ^ J .r) (i % 2 ^ J .r) (place-row J i l) (place-set J i) (test (i / 2 ^ J .r)) refl))
+  pub rows-whole : ((c x : ℕ) → c < J .s → test c ≡ false → x < 2 ^ J .r → entry (2 ^ J .r) t c x ≡ f c x) → rows-of J test f t ≡ table-of J f
+  unfolding rows-of
+  rows-whole h = places-ext (entries J) _ _ (λ i l. go (i / 2 ^ J .r) (i % 2 ^ J .r) (place-row J i l) (place-set J i) (test (i / 2 ^ J .r)) refl)
     where
       go : (c x : ℕ) → c < J .s → x < 2 ^ J .r → (b : Bool) → test c ≡ b → cond (test c) (f c x) (entry (2 ^ J .r) t c x) ≡ f c x
       go c x k l true q = ap (λ (b : Bool). cond b (f c x) (entry (2 ^ J .r) t c x)) q

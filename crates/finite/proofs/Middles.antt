@@ -30,12 +30,9 @@ module _ (a k : ℕ) (xs ys : List ℕ) (fits : a + k ≤ length xs) (same : len
       ap (λ (n : ℕ). getD (putMid a k xs ys) n 0) e ∙ shifted (length ys + j) ∙ getD-append-add ys (drop k (drop a xs)) j 0
       ∙ getD-drop k (drop a xs) j 0 ∙ getD-drop a xs (k + j) 0 ∙ ap (λ (n : ℕ). getD xs n 0) (omega arith)
 
-  -- as a list, what is written, and what is behind it
+  -- as a list, what is written
   tail : drop a (putMid a k xs ys) ≡ ys ++ drop k (drop a xs)
   tail = drop-at (take a xs) (ys ++ drop k (drop a xs)) a first
 
   pub mid-part : take k (drop a (putMid a k xs ys)) ≡ ys
   mid-part = ap (take k) tail ∙ take-at ys (drop k (drop a xs)) k same
-
-  pub mid-behind : drop k (drop a (putMid a k xs ys)) ≡ drop k (drop a xs)
-  mid-behind = ap (drop k) tail ∙ drop-at ys (drop k (drop a xs)) k same

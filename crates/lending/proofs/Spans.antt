@@ -1,16 +1,16 @@
 -- The laws of spans: a table with other entries in the span, and two spans that do not overlap.
-use Prim.Native.Nat.{ℕ, zero, suc, _+_, _-_, _≤_, _<_, min}
+use Prim.Native.Nat.{ℕ, _+_, _-_, _≤_, _<_, min}
 use native.Mathlib.Omega.{arith}
 use mathlib.Core.Logic.{inl, inr}
 use mathlib.Core.Path.{_≡_, refl, sym, ap, _∙_}
 use mathlib.Core.Bool.{Bool, true, false, cond}
-use mathlib.Core.List.{List, [], _∷_, _++_, append-assoc}
+use mathlib.Core.List.{List, _++_, append-assoc}
 use lib.Dec.{ltb}
 use lib.ListN.{length, getD, take, drop, length-take, length-drop, take-append-drop}
-use lib.Seq.{getD-take, getD-drop, length-take-le, take-nil, take-take, drop-drop, drop-append-le, ext-getD}
-use borrow.Rule.Slice.PartMut.{put-same, same-len-mid, take-put}
+use lib.Seq.{getD-take, getD-drop, length-take-le, drop-append-le, ext-getD}
+use borrow.Rule.Slice.PartMut.{put-same, same-len-mid}
 use borrow.Author.Tests.{ltb-true, ltb-false, le-ltb}
-use Rattle.finite.proofs.Middles.{mid-part, mid-behind}
+use Rattle.finite.proofs.Middles.{mid-part}
 use Rattle.lending.specs.Spans.{whole, runs-past, within, replaced, Apart}
 use Rattle.lending.specs.declared.Span.{Span}
 
@@ -55,10 +55,6 @@ module _ (s : Span) (t : List ℕ) where
         sym (drop-append-le n (within s t) (drop (s .number) rest) (omega (arith, within-length))) ∙ ap (drop n) (take-append-drop (s .number) rest) in
         ap (λ (l : List ℕ). take (s .first) t ++ l) (append-assoc front (drop n (within s t)) (drop (s .number) rest) ∙ ap (λ (l : List ℕ). front ++ l) back)
 
-    -- the first n entries of the span
-    pub front-within : (n : ℕ) → n ≤ s .number → take n (within s t) ≡ take n (drop (s .first) t)
-    front-within n h = take-take n (s .number) (drop (s .first) t) h
-
 -- tables of one length with the same entries in the span have the same part in it
 pub within-same : (s : Span) (t t' : List ℕ) → length t' ≡ length t → ((i : ℕ) → s .first ≤ i → i < s .first + s .number → getD t' i 0 ≡ getD t i 0)
     → within s t' ≡ within s t
@@ -73,44 +69,6 @@ within-same s t t' e h = ext-getD 0 (within s t') (within s t) (long t' ∙ ap (
         within-at s t' i below ∙ h (s .first + i) (omega arith) (omega arith) ∙ sym (within-at s t i below)
 
 -- ---- two spans
-
--- a part in the middle, cut at its end first
-cut-first : (f n : ℕ) (l : List ℕ) → take n (drop f l) ≡ drop f (take (f + n) l)
-cut-first f n l = go f l
-  where
-    go : (f : ℕ) (l : List ℕ) → take n (drop f l) ≡ drop f (take (f + n) l)
-    go zero l = ap (λ (m : ℕ). take m l) (let z : n ≡ zero + n = omega arith in z)
-    go (suc f) [] = take-nil n ∙ sym (ap (drop (suc f)) (take-nil (suc f + n)))
-    go (suc f) (x ∷ xs) = go f xs ∙ ap (λ (m : ℕ). drop (suc f) (take m (x ∷ xs))) (let z : suc (f + n) ≡ suc f + n = omega arith in z)
-
-module _ (a b : Span) (t part : List ℕ) (fits : b .first + b .number ≤ length t) (same : length part ≡ b .number) where
-  -- entries before a span stay
-  before-stays : a .first + a .number ≤ b .first → within a (replaced b part t) ≡ within a t
-  before-stays h =
-      cut-first (a .first) (a .number) (replaced b part t)
-      ∙ ap (drop (a .first)) (
-      sym (take-take (a .first + a .number) (b .first) (replaced b part t) h)
-      ∙ ap (take (a .first + a .number)) (take-put (b .first) (b .number) t part (omega arith))
-      ∙ take-take (a .first + a .number) (b .first) t h)
-      ∙ sym (cut-first (a .first) (a .number) t)
-
-  -- what is behind a span, reached over it
-  over : (l : List ℕ) → b .first + b .number ≤ a .first → drop (a .first) l ≡ drop (a .first - (b .first + b .number)) (drop (b .number) (drop (b .first) l))
-  over l h =
-      sym (ap (drop (a .first - (b .first + b .number))) (drop-drop (b .number) (b .first) l) ∙ drop-drop (a .first - (b .first + b .number)) (b .first + b .number) l
-      ∙ ap (λ (n : ℕ). drop n l) (let z : b .first + b .number + (a .first - (b .first + b .number)) ≡ a .first = omega arith in z))
-
-  behind-stays : b .first + b .number ≤ a .first → within a (replaced b part t) ≡ within a t
-  behind-stays h =
-      ap (take (a .number)) (
-      over (replaced b part t) h
-      ∙ ap (drop (a .first - (b .first + b .number))) (mid-behind (b .first) (b .number) t part fits same)
-      ∙ sym (over t h))
-
-  -- entries of a span apart stay
-  pub apart-stays : Apart a b → within a (replaced b part t) ≡ within a t
-  apart-stays (inl h) = before-stays h
-  apart-stays (inr h) = behind-stays h
 
 pub apart-flip : (a b : Span) → Apart a b → Apart b a
 apart-flip a b (inl h) = inr h

@@ -8,9 +8,9 @@ use mathlib.Core.List.{List, _++_}
 use lib.ListN.{length, getD, take, drop, length-append, length-drop}
 use Rattle.finite.proofs.Middles.{mid-before, mid-after}
 use Rattle.sheet.specs.Instance.{Instance}
-use Rattle.lending.specs.Spans.{within, replaced, Apart}
+use Rattle.lending.specs.Spans.{within, replaced}
 use Rattle.lending.specs.declared.Span.{Span}
-use Rattle.lending.proofs.Spans.{within-length, replaced-length, within-replaced, replaced-front, apart-stays}
+use Rattle.lending.proofs.Spans.{within-length, replaced-length, within-replaced, replaced-front}
 use Rattle.planner.specs.Answers.{entries}
 use Rattle.planner.specs.Lent.{used, part-after, front-after}
 use Rattle.planner.specs.declared.Planned.{Planned}
@@ -50,14 +50,6 @@ module _ (I : Instance) (a : Planned) (span : Span) (front table : List ℕ) (lo
       go : (b : Bool) → used a ≡ b → within span (front-after I a span front table) ≡ part-after I a front (within span table)
       go true u = ap (within span) (after-used u) ∙ within-replaced span table (room u .0) part (part-length u) ∙ part-is true u
       go false u = ap (within span) (after-unused u) ∙ part-is false u
-
-  -- in a span apart it has what it had
-  pub after-apart : (other : Span) → Apart other span → within other (front-after I a span front table) ≡ within other table
-  after-apart other h = go (used a) refl
-    where
-      go : (b : Bool) → used a ≡ b → within other (front-after I a span front table) ≡ within other table
-      go true u = ap (within other) (after-used u) ∙ apart-stays other span table part (room u .0) (part-length u) h
-      go false u = ap (within other) (after-unused u)
 
   -- no entry but the first s × 2^r of the span is another
   pub after-others : (i : ℕ) → (i < span .first) ⊎ (span .first + entries I ≤ i) → getD (front-after I a span front table) i 0 ≡ getD table i 0

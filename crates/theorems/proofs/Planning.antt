@@ -5,7 +5,7 @@ use mathlib.Core.Logic.{_↔_, _⊎_, inl, inr}
 use mathlib.Core.Path.{_≡_, refl, sym, ap, _∙_, subst}
 use mathlib.Core.Bool.{true, false}
 use mathlib.Core.List.{List, [], _∷_}
-use lib.ListN.{length, getD, take, drop, replicate, length-replicate}
+use lib.ListN.{length, getD, take, drop, replicate}
 use lib.Seq.{take-at}
 use Rattle.finite.proofs.Middles.{mid-part}
 use Rattle.subsets.specs.Costs.{Cost, none, some}
@@ -41,14 +41,13 @@ use Rattle.lending.proofs.Rules.{enough-iff}
 use Rattle.lending.proofs.Spans.{replaced-front}
 use Rattle.planner.specs.Answers.{number, entries, Enough, plan-numbers, solved, lent, planned}
 use Rattle.planner.specs.Lent.{used, front-after, table-after, OutputAfter}
-use Rattle.planner.specs.Kept as kept
 use Rattle.planner.specs.Kept.{kept-costs, kept-choices}
-use Rattle.planner.specs.Inner.Tables.{cost-entry, choice-entry}
 use Rattle.planner.specs.declared.Planned.{Planned}
 use Rattle.planner.specs.declared.Planned.the-variants.{Plan, Refused}
 use Rattle.planner.proofs.Solved.{accepted-solved, used-solved}
 use Rattle.planner.proofs.After.{after-used, after-unused, after-length, after-others}
-use Rattle.edit.proofs.Tables.{table-length, kept-after}
+use Rattle.edit.proofs.Tables.{kept-after}
+use Rattle.edit.proofs.Lists.{zeros-long, kept-costs-long, kept-choices-long}
 use Rattle.theorems.proofs.Lent.{front-written}
 use Rattle.theorems.specs.Promised.{Given, Best, Stays, Cleared, Written, Left, KeptLeft}
 
@@ -249,7 +248,7 @@ pub left :
 left bytes output costs choices output' costs' choices' span a e o t u =
     let I = instance bytes in
     let zeros : List ℕ = replicate (entries I) 0 in
-    let long : length zeros ≡ entries I = length-replicate (entries I) 0 in
+    let long = zeros-long I in
     let ct = room-of-costs bytes output costs choices output' span a e in
     let cu = room-of-choices bytes output costs choices output' span a e in
     record {
@@ -270,13 +269,12 @@ pub left-kept :
     costs' ≡ front-after (instance bytes) a span (kept-costs (instance bytes)) costs →
     choices' ≡ front-after (instance bytes) a span (kept-choices (instance bytes)) choices →
     KeptLeft (instance bytes) a span output costs choices output' costs' choices'
-unfolding kept.kept-costs kept.kept-choices
 left-kept bytes output costs choices output' costs' choices' span a e o t u =
     let I = instance bytes in
     let ct = room-of-costs bytes output costs choices output' span a e in
     let cu = room-of-choices bytes output costs choices output' span a e in
-    let lt = table-length I (cost-entry I) in
-    let lu = table-length I (choice-entry I) in
+    let lt = kept-costs-long I in
+    let lu = kept-choices-long I in
     record {
       kept = λ h. (
         kept-after I a span costs choices costs' choices' h (ct h .0) (cu h .0) (ct h .1) t u,
