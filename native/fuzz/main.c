@@ -9,6 +9,7 @@
 
 #include "damage.h"
 #include "dearest.h"
+#include "example.h"
 #include "random.h"
 #include "require.h"
 #include "sheets.h"
@@ -63,6 +64,9 @@ static void draw_choices(struct random *random, uint8_t choice[CHOICES])
     for (i = OUTPUT_LENGTH; i <= COPY_LENGTH; i++)
         if (!random_once_in(random, 4))
             choice[i] = 0;
+    for (i = SPAN_NUMBER; i <= SPAN_WAY; i++)
+        if (!random_once_in(random, 4))
+            choice[i] = 0;
     choice[TAIL] = (uint8_t)random_below(random, MOST_WORDS + 1);
     if (!random_once_in(random, 4))
         choice[LINES_LENGTH] = 0;
@@ -107,7 +111,7 @@ static size_t draw_input(struct random *random, uint8_t *bytes)
     if (random_once_in(random, 2048))
         return draw_dearest(random, bytes);
     draw_words(random, bytes[TAIL], words);
-    length = random_once_in(random, 16) ? example_sheet(random, sheet)
+    length = random_once_in(random, 16) ? example_sheet(sheet, random_once_in(random, 2))
                                         : draw_sheet(random, sheet, words);
     if (kind < 8)
         length = damage_sheet(random, sheet, length);
