@@ -51,6 +51,11 @@ static size_t entries_of(const struct road *road)
     return (size_t)(counts[2] << counts[1]);
 }
 
+int shares_tables(const struct input *input)
+{
+    return input->choice[SPAN_ROADS] < 128;
+}
+
 /* True if there are entries between the spans. */
 static int has_gap(const struct input *input)
 {
@@ -61,7 +66,7 @@ static int has_gap(const struct input *input)
 static void place_spans(const struct input *input, struct road *lower, struct road *upper)
 {
     unsigned byte = input->choice[SPAN_ROADS];
-    size_t gap = has_gap(input) ? 1 + (byte >> 5) : 0;
+    size_t gap = has_gap(input) ? 1 + (byte >> 5 & 3) : 0;
     size_t more = byte >> 3 & 3;
     size_t length;
 

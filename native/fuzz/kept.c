@@ -80,16 +80,14 @@ void keep_and_edit(const struct run *first, const struct run *second,
         edit_dirt(first, reading);
         edit_dirt(second, reading);
     }
-    if (is_turn(first, reading, SPANS)) {
-        call_spans(first, reading);
-        call_spans(second, reading);
-    }
+    if (is_turn(first, reading, SPANS))
+        call_spans(first, second, reading, planning, &tables);
     if (!is_taken(planning))
         return;
     begin_chain(first->input, reading, planning, &tables);
     if (is_turn(first, reading, CHAIN))
         run_chain(swapped ? second : first, swapped ? first : second);
-    if (!is_large(reading))
+    if (!is_large(reading) && shares_tables(first->input))
         share_tables(swapped ? first : second);
     if (is_turn(first, reading, STRANGE))
         edit_strange(first, second);

@@ -9,6 +9,9 @@
 #include "refusals.h"
 #include "spanner.h"
 
+/* What plans leave. */
+static struct tables clear;
+
 /* What a refusal tells that leaves all. */
 static struct planning refused(uint64_t number)
 {
@@ -30,8 +33,7 @@ static struct planning call_alone(const struct run *run, const struct request *r
 
     switch (request->call) {
     case PLAN_IN_SPAN:
-        memset(tables->costs, 0, entries * sizeof *tables->costs);
-        memset(tables->choices, 0, entries * sizeof *tables->choices);
+        copy_tables(tables, &clear, entries);
         return find_plan(run, request->reading);
     case KEEP_IN_SPAN:
         return keep_plan(run, request->reading, tables);
@@ -44,18 +46,28 @@ static struct planning call_alone(const struct run *run, const struct request *r
     }
 }
 
-/* Makes the call in the span; the other run's tables have as many entries as the span. */
-static void call_beside(const struct run *run, const struct run *alone,
-                        const struct request *request)
+/* The places of the output that the input lends. */
+static size_t places_of(const struct run *run, const struct request *request)
 {
-    static struct tables left;
-    size_t places = input_length(run->input, OUTPUT_LENGTH, (size_t)request->reading->counts[1]);
-    uint64_t number = span_refusal(request, places);
-    struct planning due = number != 0 ? refused(number) : call_alone(alone, request, &left);
-    struct output output = lend_output(run, OUTPUT, places);
+    return input_length(run->input, OUTPUT_LENGTH, (size_t)request->reading->counts[1]);
+}
+
+/* What must come of the call: the refusal that applies, or what comes of the call without. */
+static struct planning due_of(const struct run *run, const struct request *request,
+                              struct tables *left)
+{
+    uint64_t number = span_refusal(request, places_of(run, request));
+
+    return number != 0 ? refused(number) : call_alone(run, request, left);
+}
+
+static void call_lent(const struct run *run, const struct request *request,
+                      const struct planning *due, const struct tables *left)
+{
+    struct output output = lend_output(run, OUTPUT, places_of(run, request));
     struct pair pair = lend_pair(run, request->span);
 
-    call_span(run, request, &pair, &output, &due, &left);
+    call_span(run, request, &pair, &output, due, left);
 }
 
 /* The call, the cabinet of an edit, which need not be there, and no span yet. */
@@ -63,25 +75,57 @@ static struct request input_request(const struct input *input, const struct read
 {
     size_t s = (size_t)reading->counts[2];
     int outside = s == 0 || input->choice[EDIT_NUMBER] >= 128;
-    struct request request = {turn_of(input) % SPAN_CALLS, 0, reading, NULL};
+    unsigned call = input->choice[SPAN_FIRST] / MOST_LENGTH_ADDED % SPAN_CALLS;
+    struct request request = {call, 0, reading, NULL};
 
     request.cabinet = outside ? cabinet_outside(input, s) : edited_cabinet(input, s);
     return request;
 }
 
-void call_spans(const struct run *run, const struct reading *reading)
+/* The tables of the call without a span have as many entries as the span. What they hold before is
+ * of no matter but for an edit. */
+static void call_named(const struct run *first, const struct run *second, struct request request)
 {
-    struct input input = *run->input;
-    struct run alone = *run;
-    struct request request = input_request(&input, reading);
-    struct span span = input_span(&input, entries_needed(&request));
-    struct span whole = whole_span(&input, entries_needed(&request));
+    static struct tables left;
+    struct span span = input_span(first->input, entries_needed(&request));
+    struct input input = *first->input;
+    struct run one = *first;
+    struct run other = *second;
+    struct planning due;
 
     input.choice[COSTS_LENGTH] = input.choice[SPAN_NUMBER];
     input.choice[CHOICES_LENGTH] = input.choice[SPAN_NUMBER];
-    alone.input = &input;
+    one.input = &input;
+    other.input = &input;
     request.span = &span;
-    call_beside(run, &alone, &request);
-    request.span = &whole;
-    call_beside(run, run, &request);
+    due = due_of(&one, &request, &left);
+    call_lent(first, &request, &due, &left);
+    if (request.call == EDIT_IN_SPAN)
+        due = due_of(&other, &request, &left);
+    call_lent(second, &request, &due, &left);
+}
+
+static void call_whole(const struct run *run, struct request request,
+                       const struct planning *planning, const struct tables *kept)
+{
+    static struct tables left;
+    struct span span = whole_span(run->input, entries_needed(&request));
+    struct planning due = *planning;
+
+    request.span = &span;
+    if (request.call == EDIT_IN_SPAN)
+        due = due_of(run, &request, &left);
+    else
+        copy_tables(&left, request.call == KEEP_IN_SPAN ? kept : &clear,
+                    entries_needed(&request));
+    call_lent(run, &request, &due, &left);
+}
+
+void call_spans(const struct run *first, const struct run *second, const struct reading *reading,
+                const struct planning *planning, const struct tables *kept)
+{
+    struct request request = input_request(first->input, reading);
+
+    call_named(first, second, request);
+    call_whole(second, request, planning, kept);
 }
