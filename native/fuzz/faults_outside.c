@@ -234,9 +234,10 @@ static void keep_notes_first(struct spanned *call)
 static void edit_at_noted(struct spanned *call)
 {
     size_t first = call->first;
+    int within = is_within(call);
 
     call->first = kept_at;
-    if (!is_within(call))
+    if (!within || !is_within(call))
         call->first = first;
     call->real(call);
 }

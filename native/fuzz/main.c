@@ -54,28 +54,40 @@ static void watch(void)
         require(sigaction(watched[i], &action, &before[i]) == 0, "the handler is set");
 }
 
+/* Mostly a span of the length needed that ends with the tables. The source is seeded by the one of
+ * the other choices, which do not depend on it. */
+static void draw_span(uint64_t seed, uint8_t choice[CHOICES])
+{
+    struct random random = {~seed};
+    int i;
+
+    for (i = SPAN_FIRST; i < CHOICES; i++)
+        choice[i] = (uint8_t)random_next(&random);
+    for (i = SPAN_NUMBER; i <= SPAN_WAY; i++)
+        if (!random_once_in(&random, 4))
+            choice[i] = 0;
+}
+
 /* Mostly lengths as needed, so that a good part of the sheets is planned. */
 static void draw_choices(struct random *random, uint8_t choice[CHOICES])
 {
     int i;
 
-    for (i = 0; i < CHOICES; i++)
+    for (i = 0; i < SPAN_FIRST; i++)
         choice[i] = (uint8_t)random_next(random);
     for (i = OUTPUT_LENGTH; i <= COPY_LENGTH; i++)
-        if (!random_once_in(random, 4))
-            choice[i] = 0;
-    for (i = SPAN_NUMBER; i <= SPAN_WAY; i++)
         if (!random_once_in(random, 4))
             choice[i] = 0;
     choice[TAIL] = (uint8_t)random_below(random, MOST_WORDS + 1);
     if (!random_once_in(random, 4))
         choice[LINES_LENGTH] = 0;
     draw_tariff(random, choice);
+    draw_span(random->state, choice);
 }
 
 static size_t draw_bytes(struct random *random, uint8_t *bytes)
 {
-    size_t length = random_below(random, random_once_in(random, 16) ? 400 : 31 + CHOICES);
+    size_t length = random_below(random, random_once_in(random, 16) ? 400 : 25 + CHOICES);
     size_t i;
 
     for (i = 0; i < length; i++)

@@ -3,7 +3,8 @@
 
 /* What becomes of a span that lies about at the end of the tables; any other way leaves it there. */
 enum {
-    EMPTY_AT_END = 1,
+    ONE_SHORT = 1,
+    EMPTY_AT_END,
     EMPTY_PAST_END,
     HIGHEST_FIRST,
     HIGHEST_NUMBER,
@@ -37,10 +38,14 @@ static void put_span(struct span *span, size_t first, size_t number)
     span->number = number;
 }
 
-/* To the end of the shorter table, or to where only figures that are cut would lie in it. */
-static void move_span(struct span *span, unsigned way)
+/* Cuts it where the tables go on, or moves it to the end of the shorter table, or to where only
+ * figures that are cut would lie in it. */
+static void move_span(struct span *span, unsigned way, size_t needed)
 {
     switch (way % WAYS) {
+    case ONE_SHORT:
+        span->number = needed > 0 ? needed - 1 : 0;
+        break;
     case EMPTY_AT_END:
         put_span(span, shorter_table(span), 0);
         break;
@@ -84,7 +89,7 @@ struct span input_span(const struct input *input, size_t needed)
     end = span.first + span.number;
     span.costs_len = input_length(input, SPAN_COSTS, end);
     span.choices_len = input_length(input, SPAN_CHOICES, end);
-    move_span(&span, input->choice[SPAN_WAY]);
+    move_span(&span, input->choice[SPAN_WAY], needed);
     return span;
 }
 

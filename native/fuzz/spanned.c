@@ -126,6 +126,8 @@ void call_spans(const struct run *first, const struct run *second, const struct 
 {
     struct request request = input_request(first->input, reading);
 
-    call_named(first, second, request);
-    call_whole(second, request, planning, kept);
+    if (goes_far(first->input))
+        call_whole(second, request, planning, kept);
+    else
+        call_named(first, second, request);
 }
