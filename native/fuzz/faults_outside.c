@@ -141,6 +141,15 @@ static void span_past_costs(struct spanned *call)
         call->edit.plan.costs[call->edit.plan.costs_len] = 0;
 }
 
+static void span_count_before(struct spanned *call)
+{
+    uint64_t held = is_within(call) && call->first > 0 ? call->edit.plan.costs[call->first - 1] : 0;
+
+    call->real(call);
+    if (call->edit.plan.number == 0 && held % 2 == 1)
+        call->edit.plan.answer[2]++;
+}
+
 /* Copies what an edit is to change from the start of the tables, if it is to be taken. */
 static void span_reads_start(struct spanned *call)
 {
@@ -275,6 +284,7 @@ const struct fault outside_faults[] = {
     IN_ALL_SPANS("clear both tables", span_clears_all),
     IN_ALL_SPANS("work one entry late in a longer span", span_one_late),
     IN_ALL_SPANS("write the entry after the costs", span_past_costs),
+    IN_ALL_SPANS("tell a count that depends on the cost before the span", span_count_before),
     IN_ALL_SPANS("touch the costs with 18", span_touches_sheet),
     IN_ALL_SPANS("touch the last choice with 24", span_last_choice),
     IN_ALL_SPANS("write the output with 24", span_writes_past),

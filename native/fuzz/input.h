@@ -18,7 +18,7 @@
  *   byte 26      which call is made in a span, and how many entries the tables have before that
  *   byte 27      how many entries the span has, beside those needed
  *   byte 28 and 29: the lengths of the costs and the choices, beside the end of the span
- *   byte 30      whether the span is moved, to the end of the tables or far from them
+ *   byte 30      whether the span is cut, or moved to the end of the tables or far from them
  *   byte 31      how the spans of two roads lie, which road is first, and whether there are two
  * Zeros before a sheet are an input: all lengths as needed, a plan of zeros, a tariff of zeros, an
  * edit of cabinet 0 that changes nothing, and a span that is all of the tables. */

@@ -137,5 +137,5 @@ void share_tables(const struct run *run)
 
         make_move(run, &moves[i], &roads[mover], &roads[1 - mover], &pair);
     }
-    count_roads(!second, has_gap(run->input));
+    count_roads(!second, has_gap(run->input), !swapped);
 }

@@ -1,7 +1,7 @@
 /* span.c: a span of a pair of tables, and what an input says of it. */
 #include "span.h"
 
-/* What becomes of a span that lies about at the end of the tables; any other way leaves it there. */
+/* What becomes of a span that ends about where the tables end; any other way leaves it there. */
 enum {
     ONE_SHORT = 1,
     EMPTY_AT_END,

@@ -123,7 +123,11 @@ void count_shared(const struct planning *editing)
     tally.kinds[EDITED_SPAN] += is_taken(editing);
 }
 
-void count_roads(int first, int apart)
+void count_roads(int first, int apart, int called)
 {
-    tally.kinds[ROADS + 2 * (first != 0) + (apart != 0)]++;
+    if (first)
+        tally.kinds[apart ? APART_FIRST : TOUCHING_FIRST]++;
+    else
+        tally.kinds[apart ? APART : TOUCHING]++;
+    tally.kinds[called ? CALLED_FIRST : CALLED_SECOND]++;
 }

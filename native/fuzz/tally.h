@@ -67,8 +67,12 @@ enum kind {
     LONG_SPAN,      /* plans in a span longer than needed */
     LATER_SPAN,     /* plans in a span that starts after entry 0 */
     EDITED_SPAN,    /* edits of what was kept in a span, with a plan or 12 */
-    ROADS,          /* from here on, two roads that share tables, see count_roads */
-    LAST_ROADS = ROADS + 3,
+    TOUCHING,       /* two roads in tables where the input's comes second, nothing between */
+    APART,          /* the same with entries between */
+    TOUCHING_FIRST, /* two roads in tables where the input's comes first, nothing between */
+    APART_FIRST,    /* the same with entries between */
+    CALLED_SECOND,  /* two roads of which the other one is kept first */
+    CALLED_FIRST,   /* two roads of which the input's is kept first */
     KINDS
 };
 
@@ -105,8 +109,8 @@ void count_span(uint64_t number, unsigned causes, const struct span *span, size_
 /* Counts an edit of what was kept in a span. */
 void count_shared(const struct planning *editing);
 
-/* Counts two roads that share tables: whether the input's road comes first there, and whether
- * there are entries between. */
-void count_roads(int first, int apart);
+/* Counts two roads that share tables: whether the input's comes first there, whether there are
+ * entries between, and whether the input's is kept first. */
+void count_roads(int first, int apart, int called);
 
 #endif

@@ -50,10 +50,12 @@ static const char *const kinds[KINDS] = {
     [LONG_SPAN] = "plans in a span longer than needed",
     [LATER_SPAN] = "plans in a span that starts after entry 0",
     [EDITED_SPAN] = "edits of what was kept in a span",
-    [ROADS] = "two roads, the other one first, spans that touch",
-    [ROADS + 1] = "two roads, the other one first, entries between",
-    [ROADS + 2] = "two roads, the input's first, spans that touch",
-    [LAST_ROADS] = "two roads, the input's first, entries between",
+    [TOUCHING] = "pairs of roads in spans that touch, the input's second",
+    [APART] = "pairs of roads with entries between, the input's second",
+    [TOUCHING_FIRST] = "pairs of roads in spans that touch, the input's first",
+    [APART_FIRST] = "pairs of roads with entries between, the input's first",
+    [CALLED_SECOND] = "pairs of roads of which the other one is kept first",
+    [CALLED_FIRST] = "pairs of roads of which the input's is kept first",
 };
 
 static int plans(int column)
