@@ -153,14 +153,14 @@ struct counts {
 struct counts counts_of(struct sheet sheet);
 
 /* The same fault in each of the calls in spans. */
-#define IN_EACH_SPAN(does, wrong)                                                                  \
-    {.what = "gz_plan_span " does, .plan_span = wrong},                                            \
-        {.what = "gz_keep_span " does, .keep_span = wrong},                                        \
-        {.what = "gz_edit_span " does, .edit_span = wrong}
+#define IN_EACH_SPAN(it, wrong)                                                                    \
+    {.what = "gz_plan_span " it, .plan_span = wrong},                                              \
+        {.what = "gz_keep_span " it, .keep_span = wrong},                                          \
+        {.what = "gz_edit_span " it, .edit_span = wrong}
 
 /* One fault of all calls in spans. */
-#define IN_ALL_SPANS(do, wrong)                                                                    \
-    {.what = "the calls in spans " do, .plan_span = wrong, .keep_span = wrong, .edit_span = wrong}
+#define IN_ALL_SPANS(they, wrong)                                                                  \
+    {.what = "the calls in spans " they, .plan_span = wrong, .keep_span = wrong, .edit_span = wrong}
 
 /* True if every plan of the road can be tried. */
 int has_few_plans(struct counts counts);

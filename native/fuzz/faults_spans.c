@@ -68,6 +68,15 @@ static void span_number_alone(struct spanned *call)
     take_instead(call, call->number <= shorter_of(call), 0, call->number);
 }
 
+static void span_needed_alone(struct spanned *call)
+{
+    size_t shorter = shorter_of(call);
+    size_t needed = needed_for(call);
+    int fits = needed <= shorter && call->first <= shorter - needed;
+
+    take_instead(call, fits && call->number >= needed, call->first, shorter - call->first);
+}
+
 static void span_cut(struct spanned *call)
 {
     call->first %= (size_t)1 << 32;
@@ -278,6 +287,7 @@ const struct fault span_faults[] = {
     IN_EACH_SPAN("tells a count with 24", span_count),
     IN_ALL_SPANS("look at the first entry alone", span_first_alone),
     IN_ALL_SPANS("look at the number of entries alone", span_number_alone),
+    IN_ALL_SPANS("look at the entries needed alone", span_needed_alone),
     IN_ALL_SPANS("cut the span to 32 bits", span_cut),
     IN_ALL_SPANS("answer 24 for no entry at the end", span_empty_end),
     IN_ALL_SPANS("measure 11 on what the tables have from the span on", span_on_rest),

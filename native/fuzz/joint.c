@@ -44,6 +44,7 @@ static const struct stage *stage_of_m(int edited)
     return stage;
 }
 
+/* The entries of a table that the road needs. */
 static size_t entries_of(const struct road *road)
 {
     const uint64_t *counts = road->stages[0]->reading.counts;
@@ -81,24 +82,17 @@ static void place_spans(const struct input *input, struct road *lower, struct ro
     upper->span.choices_len = lower->span.choices_len;
 }
 
-/* What a call in a span must leave for a stage: cleared tables, or those that were kept. */
-static const struct tables *left_by(enum span_call call, const struct stage *stage)
-{
-    static struct tables clear;
-
-    return call == PLAN_IN_SPAN ? &clear : &stage->tables;
-}
-
+/* Makes one of the calls: its road must then have what the stage has, and the other what it had. */
 static void make_move(const struct run *run, const struct move *move, struct road *mover,
                       const struct road *other, const struct pair *pair)
 {
     const struct stage *stage = mover->stages[move->stage];
+    const struct tables *left = move->call == PLAN_IN_SPAN ? cleared_tables() : &stage->tables;
     struct request request = {move->call, mover->cabinet, &stage->reading, &mover->span};
     struct run moved = *run;
 
     moved.input = &stage->input;
-    call_span(&moved, &request, pair, &mover->output, &stage->planning,
-              left_by(move->call, stage));
+    call_span(&moved, &request, pair, &mover->output, &stage->planning, left);
     require_places(&other->output, "one road's .. outputs .. are those of its own calls alone");
     if (move->call == EDIT_IN_SPAN)
         count_shared(&stage->planning);
@@ -117,7 +111,7 @@ static void take_roads(const struct run *run, struct road roads[2])
     roads[1].stages[1] = stage_of_m(1);
     roads[1].cabinet = 0;
     roads[0].output = lend_output(run, OUTPUT, places);
-    roads[1].output = lend_output(run, OTHER_OUTPUT, MOST_PLACES);
+    roads[1].output = lend_output(run, OTHER_OUTPUT, (size_t)roads[1].stages[0]->reading.counts[1]);
 }
 
 void share_tables(const struct run *run)

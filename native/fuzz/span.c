@@ -32,6 +32,7 @@ int sum_wraps(const struct span *span)
     return span->first > SIZE_MAX - span->number;
 }
 
+/* Leaves the tables as they are. */
 static void put_span(struct span *span, size_t first, size_t number)
 {
     span->first = first;

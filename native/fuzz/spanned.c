@@ -9,9 +9,6 @@
 #include "refusals.h"
 #include "spanner.h"
 
-/* What plans leave. */
-static struct tables clear;
-
 /* What a refusal tells that leaves all. */
 static struct planning refused(uint64_t number)
 {
@@ -33,7 +30,7 @@ static struct planning call_alone(const struct run *run, const struct request *r
 
     switch (request->call) {
     case PLAN_IN_SPAN:
-        copy_tables(tables, &clear, entries);
+        copy_tables(tables, cleared_tables(), entries);
         return find_plan(run, request->reading);
     case KEEP_IN_SPAN:
         return keep_plan(run, request->reading, tables);
@@ -61,6 +58,7 @@ static struct planning due_of(const struct run *run, const struct request *reque
     return number != 0 ? refused(number) : call_alone(run, request, left);
 }
 
+/* Makes the call with an output and tables that are lent for it alone. */
 static void call_lent(const struct run *run, const struct request *request,
                       const struct planning *due, const struct tables *left)
 {
@@ -82,8 +80,8 @@ static struct request input_request(const struct input *input, const struct read
     return request;
 }
 
-/* The tables of the call without a span have as many entries as the span. What they hold before is
- * of no matter but for an edit. */
+/* In the span that the input names. The tables of the call without a span have as many entries as
+ * that; what they hold before is of no matter but for an edit. */
 static void call_named(const struct run *first, const struct run *second, struct request request)
 {
     static struct tables left;
@@ -105,6 +103,7 @@ static void call_named(const struct run *first, const struct run *second, struct
     call_lent(second, &request, &due, &left);
 }
 
+/* In the span that starts at entry 0 and has as many entries as the shorter table. */
 static void call_whole(const struct run *run, struct request request,
                        const struct planning *planning, const struct tables *kept)
 {
@@ -116,7 +115,7 @@ static void call_whole(const struct run *run, struct request request,
     if (request.call == EDIT_IN_SPAN)
         due = due_of(run, &request, &left);
     else
-        copy_tables(&left, request.call == KEEP_IN_SPAN ? kept : &clear,
+        copy_tables(&left, request.call == KEEP_IN_SPAN ? kept : cleared_tables(),
                     entries_needed(&request));
     call_lent(run, &request, &due, &left);
 }

@@ -20,6 +20,13 @@ struct output lend_output(const struct run *run, enum piece piece, size_t length
     return output;
 }
 
+const struct tables *cleared_tables(void)
+{
+    static struct tables cleared;
+
+    return &cleared;
+}
+
 size_t entries_needed(const struct request *request)
 {
     return (size_t)(request->reading->counts[2] << request->reading->counts[1]);
@@ -60,6 +67,7 @@ uint64_t span_refusal(const struct request *request, size_t output_len)
     return 0;
 }
 
+/* Gives the number that the call returns. */
 static uint64_t make_call(const struct request *request, const struct pair *pair,
                           const struct output *output, const uint8_t *sheet, size_t length,
                           uint64_t *answer)
@@ -82,6 +90,7 @@ static uint64_t make_call(const struct request *request, const struct pair *pair
     }
 }
 
+/* Counts the number given, and on an accepted sheet what the span is like. */
 static void count(const struct request *request, size_t output_len, uint64_t number)
 {
     static const enum column columns[SPAN_CALLS] = {FIND_SPAN, KEEP_SPAN, EDIT_SPAN};
@@ -119,7 +128,8 @@ void call_span(const struct run *run, const struct request *request, const struc
     if (told.number == 0)
         memcpy(output->due, due->plan, r * sizeof *due->plan);
     require_places(output, "in a span: Other places stay as they are, and in a refusal all do");
-    expect_entries(request->span, left, written);
+    if (written > 0)
+        expect_entries(request->span, left, written);
     require_pair(pair, request->span, written);
     count(request, output->length, told.number);
 }

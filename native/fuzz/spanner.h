@@ -26,6 +26,9 @@ struct output {
 /* So many places, full of the run's dirt. The piece says which memory. */
 struct output lend_output(const struct run *run, enum piece piece, size_t length);
 
+/* What a plan leaves. */
+const struct tables *cleared_tables(void);
+
 /* The entries of a table that the sheet needs. */
 size_t entries_needed(const struct request *request);
 

@@ -84,6 +84,7 @@ void count_strange(const struct planning *editing)
     tally.kinds[STRANGE_TOLD] += editing->number == 23;
 }
 
+/* True if the bit of the cause is set. */
 static int has(unsigned causes, int cause)
 {
     return (int)(causes >> cause & 1);

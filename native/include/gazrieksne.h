@@ -226,15 +226,16 @@ uint64_t gz_edit(const uint8_t *sheet, size_t sheet_len, size_t cabinet, uint16_
  * tables: it returns and tells the same, writes the same to the output, and leaves the same in the
  * span. So row p of a table starts at its entry first + p * 2^r, and entries of the span behind the
  * s * 2^r that are needed stay as they are. Entries outside the span never change, in any answer.
- * gz_plan and gz_keep in a span return 0, else 1 to 12, 18, 19 or 24, and gz_edit in a span 0, else
- * 1 to 12, 14, 18, 19, 23 or 24.
+ * gz_plan_span and gz_keep_span return 0, else 1 to 12, 18, 19 or 24, and gz_edit_span 0, else 1 to
+ * 12, 14, 18, 19, 23 or 24.
  *   costs, costs_len      both tables whole, with the entries outside the span
  *   choices, choices_len
  *   first                 the number of the span's first entry; entries are numbered from 0
  *   number                how many entries the span has. If first + number, which is never cut to
  *                         64 bits, is above costs_len or choices_len, the answer is 24: the cost
- *                         and the count are 0, and the output and all entries are as before. Else,
- *                         if number is below s * 2^r, it is 11, however long the tables are.
+ *                         and the count are 0, the output and all entries are as before, and what
+ *                         was kept serves as before. Else, if number is below s * 2^r, it is 11,
+ *                         however long the tables are.
  * gz_plan, gz_keep and gz_edit use the span that starts at entry 0 and has as many entries as the
  * shorter table.
  *
