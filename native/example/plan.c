@@ -1,9 +1,10 @@
 /* Plans road M through the C interface: prints the cost, the count of splits weighed and each
- * service's cabinet, the carrier's bill, and what comes of three edits. Two plans of M cost 15; the
- * one with the lowest cabinet for service 0 is found, service 0 on cabinet 0 and service 1 on
- * cabinet 1. */
+ * service's cabinet, the carrier's bill, what comes of three edits, and how two roads share a pair
+ * of tables. Two plans of M cost 15; the one with the lowest cabinet for service 0 is found,
+ * service 0 on cabinet 0 and service 1 on cabinet 1. */
 #include <inttypes.h>
 #include <stdio.h>
+#include <string.h>
 
 #include "gazrieksne.h"
 
@@ -38,7 +39,7 @@ static uint64_t print_bill(const uint8_t *sheet, size_t length, const uint16_t *
 /* Where the capacities of cabinets 0 and 2 stand in the sheet. */
 enum { ROOT_CAPACITY = 22, LAST_CAPACITY = 50 };
 
-/* Tells what gz_keep or gz_edit answered. */
+/* Tells what a call that keeps or edits answered. */
 static void print_answer(const char *what, uint64_t refusal, const uint64_t answer[3],
                          const uint16_t output[2])
 {
@@ -69,6 +70,35 @@ static uint64_t print_edits(uint8_t *sheet, size_t length)
     sheet[ROOT_CAPACITY] = 4;
     refusal = gz_edit(sheet, length, 0, output, 2, costs, 12, choices, 12, answer);
     print_answer("edit", refusal, answer, output);
+    return refusal;
+}
+
+/* Keeps two roads in one pair of tables, each in 12 entries of its own: this one, and one that has
+ * no room in cabinet 0. Edits the other, which is left without a plan, and then this one without a
+ * change: its plan is as before. Gives the last refusal's number. */
+static uint64_t print_shared(const uint8_t *sheet, size_t length)
+{
+    uint8_t other[68];
+    uint16_t output[2];
+    uint16_t other_output[2];
+    uint64_t costs[24];
+    uint16_t choices[24];
+    uint64_t answer[3];
+    uint64_t refusal;
+
+    memcpy(other, sheet, length);
+    other[ROOT_CAPACITY] = 0;
+    other[LAST_CAPACITY] = 3;
+    refusal = gz_keep_span(sheet, length, output, 2, costs, 24, choices, 24, 0, 12, answer);
+    print_answer("this keep", refusal, answer, output);
+    refusal = gz_keep_span(other, length, other_output, 2, costs, 24, choices, 24, 12, 12, answer);
+    print_answer("other keep", refusal, answer, other_output);
+    other[LAST_CAPACITY] = 1;
+    refusal =
+        gz_edit_span(other, length, 2, other_output, 2, costs, 24, choices, 24, 12, 12, answer);
+    print_answer("other edit", refusal, answer, other_output);
+    refusal = gz_edit_span(sheet, length, 0, output, 2, costs, 24, choices, 24, 0, 12, answer);
+    print_answer("this edit", refusal, answer, output);
     return refusal;
 }
 
@@ -103,5 +133,9 @@ int main(void)
     if (refusal != 0 || checked[1] != answer[1])
         return 1;
     refusal = print_bill(sheet, sizeof sheet, output, (size_t)counts[1]);
-    return print_edits(sheet, sizeof sheet) != 0 || refusal != 0;
+    if (refusal == 0)
+        refusal = print_edits(sheet, sizeof sheet);
+    if (refusal == 0)
+        refusal = print_shared(sheet, sizeof sheet);
+    return refusal != 0;
 }

@@ -52,6 +52,13 @@ struct edit {
     size_t cabinet;
 };
 
+/* gz_plan_span, gz_keep_span or gz_edit_span; the cabinet is for the last one alone. */
+struct spanned {
+    struct edit edit; /* all that a call without a span is given */
+    size_t first, number;
+    void (*real)(struct spanned *call); /* the archive's own call */
+};
+
 struct bill {
     struct sheet sheet;
     const uint16_t *plan;
@@ -91,6 +98,9 @@ struct fault {
     void (*plan)(struct plan *call);
     void (*keep)(struct plan *call);
     void (*edit)(struct edit *call);
+    void (*plan_span)(struct spanned *call);
+    void (*keep_span)(struct spanned *call);
+    void (*edit_span)(struct spanned *call);
     void (*bill)(struct bill *call);
     void (*change)(struct reckoning *made, const struct bill *call);
     void (*tidy)(struct tidy *call);
@@ -109,6 +119,8 @@ extern const struct fault keep_faults[];
 extern const struct fault edit_faults[];
 extern const struct fault rows_faults[];
 extern const struct fault alike_faults[];
+extern const struct fault span_faults[];
+extern const struct fault outside_faults[];
 extern const struct fault reckoning_faults[];
 extern const struct fault bill_faults[];
 extern const struct fault lines_faults[];
@@ -125,6 +137,9 @@ void real_check(struct check *call);
 void real_plan(struct plan *call);
 void real_keep(struct plan *call);
 void real_edit(struct edit *call);
+void real_plan_span(struct spanned *call);
+void real_keep_span(struct spanned *call);
+void real_edit_span(struct spanned *call);
 void real_bill(struct bill *call);
 void real_tidy(struct tidy *call);
 void real_bound(struct bound *call);
@@ -136,6 +151,16 @@ struct counts {
 };
 
 struct counts counts_of(struct sheet sheet);
+
+/* The same fault in each of the calls in spans. */
+#define IN_EACH_SPAN(it, wrong)                                                                    \
+    {.what = "gz_plan_span " it, .plan_span = wrong},                                              \
+        {.what = "gz_keep_span " it, .keep_span = wrong},                                          \
+        {.what = "gz_edit_span " it, .edit_span = wrong}
+
+/* One fault of all calls in spans. */
+#define IN_ALL_SPANS(they, wrong)                                                                  \
+    {.what = "the calls in spans " they, .plan_span = wrong, .keep_span = wrong, .edit_span = wrong}
 
 /* True if every plan of the road can be tried. */
 int has_few_plans(struct counts counts);

@@ -177,6 +177,18 @@ static void keep_dearer(struct plan *call)
         call->costs[1]++;
 }
 
+static void keep_choices_short(struct plan *call)
+{
+    static uint16_t choices[MOST_ENTRIES];
+
+    real_keep(call);
+    if (call->number == 11 && call->costs_len >= counts_of(call->sheet).entries) {
+        call->choices = choices;
+        call->choices_len = MOST_ENTRIES;
+        real_keep(call);
+    }
+}
+
 static void keep_tables_first(struct plan *call)
 {
     struct counts counts = counts_of(call->sheet);
@@ -250,6 +262,7 @@ const struct fault keep_faults[] = {
     {.what = "gz_keep leaves choices where there is no way yet", .keep = keep_leaves_unplaced},
     {.what = "gz_keep keeps what goes in place of what stays", .keep = keep_what_goes},
     {.what = "gz_keep keeps a set dearer on the root", .keep = keep_dearer},
+    {.what = "gz_keep takes short choices", .keep = keep_choices_short},
     {.what = "gz_keep answers 11 before 10", .keep = keep_tables_first},
     {.what = "gz_keep answers 23 for 12", .keep = keep_unknown},
     {.what = "gz_keep writes the output with 12", .keep = keep_writes_none},

@@ -26,6 +26,12 @@ uint64_t __real_gz_keep(const uint8_t *, size_t, uint16_t *, size_t, uint64_t *,
                         size_t, uint64_t *);
 uint64_t __real_gz_edit(const uint8_t *, size_t, size_t, uint16_t *, size_t, uint64_t *, size_t,
                         uint16_t *, size_t, uint64_t *);
+uint64_t __real_gz_plan_span(const uint8_t *, size_t, uint16_t *, size_t, uint64_t *, size_t,
+                             uint16_t *, size_t, size_t, size_t, uint64_t *);
+uint64_t __real_gz_keep_span(const uint8_t *, size_t, uint16_t *, size_t, uint64_t *, size_t,
+                             uint16_t *, size_t, size_t, size_t, uint64_t *);
+uint64_t __real_gz_edit_span(const uint8_t *, size_t, size_t, uint16_t *, size_t, uint64_t *,
+                             size_t, uint16_t *, size_t, size_t, size_t, uint64_t *);
 uint64_t __real_gz_bill(const uint8_t *, size_t, const uint16_t *, size_t, uint64_t, uint64_t,
                         uint64_t, uint64_t *, size_t, uint64_t *);
 uint64_t __real_gz_tidy(const uint8_t *, size_t, uint8_t *, size_t, uint64_t *);
@@ -87,6 +93,36 @@ void real_edit(struct edit *call)
     plan->number = __real_gz_edit(plan->sheet.bytes, plan->sheet.length, call->cabinet,
                                   plan->output, plan->output_len, plan->costs, plan->costs_len,
                                   plan->choices, plan->choices_len, plan->answer);
+}
+
+void real_plan_span(struct spanned *call)
+{
+    struct plan *plan = &call->edit.plan;
+
+    plan->number = __real_gz_plan_span(plan->sheet.bytes, plan->sheet.length, plan->output,
+                                       plan->output_len, plan->costs, plan->costs_len,
+                                       plan->choices, plan->choices_len, call->first, call->number,
+                                       plan->answer);
+}
+
+void real_keep_span(struct spanned *call)
+{
+    struct plan *plan = &call->edit.plan;
+
+    plan->number = __real_gz_keep_span(plan->sheet.bytes, plan->sheet.length, plan->output,
+                                       plan->output_len, plan->costs, plan->costs_len,
+                                       plan->choices, plan->choices_len, call->first, call->number,
+                                       plan->answer);
+}
+
+void real_edit_span(struct spanned *call)
+{
+    struct plan *plan = &call->edit.plan;
+
+    plan->number = __real_gz_edit_span(plan->sheet.bytes, plan->sheet.length, call->edit.cabinet,
+                                       plan->output, plan->output_len, plan->costs,
+                                       plan->costs_len, plan->choices, plan->choices_len,
+                                       call->first, call->number, plan->answer);
 }
 
 void real_bill(struct bill *call)
@@ -200,8 +236,8 @@ static const struct fault *find(unsigned long number)
     const struct fault *lists[] = {sheet_faults, fourth_faults, reader_faults, checker_faults,
                                    framing_faults, planner_faults, first_faults,
                                    keep_faults, edit_faults, rows_faults, alike_faults,
-                                   reckoning_faults, bill_faults, lines_faults, copy_faults,
-                                   tidy_faults};
+                                   span_faults, outside_faults, reckoning_faults, bill_faults,
+                                   lines_faults, copy_faults, tidy_faults};
     const struct fault *fault;
     size_t i;
 
@@ -314,6 +350,48 @@ uint64_t __wrap_gz_edit(const uint8_t *sheet, size_t sheet_len, size_t cabinet, 
 
     (chosen()->edit != NULL ? chosen()->edit : real_edit)(&call);
     return call.plan.number;
+}
+
+uint64_t __wrap_gz_plan_span(const uint8_t *sheet, size_t sheet_len, uint16_t *output,
+                             size_t output_len, uint64_t *costs, size_t costs_len,
+                             uint16_t *choices, size_t choices_len, size_t first, size_t number,
+                             uint64_t *answer)
+{
+    struct spanned call = {{{given(sheet, sheet_len), output, output_len, costs, costs_len,
+                             choices, choices_len, answer, 0},
+                            0},
+                           first, number, real_plan_span};
+
+    (chosen()->plan_span != NULL ? chosen()->plan_span : real_plan_span)(&call);
+    return call.edit.plan.number;
+}
+
+uint64_t __wrap_gz_keep_span(const uint8_t *sheet, size_t sheet_len, uint16_t *output,
+                             size_t output_len, uint64_t *costs, size_t costs_len,
+                             uint16_t *choices, size_t choices_len, size_t first, size_t number,
+                             uint64_t *answer)
+{
+    struct spanned call = {{{given(sheet, sheet_len), output, output_len, costs, costs_len,
+                             choices, choices_len, answer, 0},
+                            0},
+                           first, number, real_keep_span};
+
+    (chosen()->keep_span != NULL ? chosen()->keep_span : real_keep_span)(&call);
+    return call.edit.plan.number;
+}
+
+uint64_t __wrap_gz_edit_span(const uint8_t *sheet, size_t sheet_len, size_t cabinet,
+                             uint16_t *output, size_t output_len, uint64_t *costs,
+                             size_t costs_len, uint16_t *choices, size_t choices_len,
+                             size_t first, size_t number, uint64_t *answer)
+{
+    struct spanned call = {{{given(sheet, sheet_len), output, output_len, costs, costs_len,
+                             choices, choices_len, answer, 0},
+                            cabinet},
+                           first, number, real_edit_span};
+
+    (chosen()->edit_span != NULL ? chosen()->edit_span : real_edit_span)(&call);
+    return call.edit.plan.number;
 }
 
 /* Gives a valid plan the right bill as the fault changes it. */

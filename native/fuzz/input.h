@@ -1,9 +1,9 @@
 /* input.h: how the bytes of an input say what is lent to the calls.
  *
- * An input is twenty-six bytes of choices, the sheet, and a tail of 16-bit words for plans.
+ * An input is thirty-two bytes of choices, the sheet, and a tail of 16-bit words for plans.
  *   byte 0 to 4  the lengths of the planner's output, costs, choices, plan and the tidy copy's
  *                output, each beside the length needed
- *   byte 5       where each piece lies, a bit a piece
+ *   byte 5       where each piece lies, a bit a piece; the ninth has the bit of the first
  *   byte 6       what outputs and tables hold before
  *   byte 7       how the words of the tail become cabinets
  *   byte 8       how many words the tail has, modulo 16
@@ -15,8 +15,13 @@
  *   byte 20      how tables come to be wrong
  *   byte 21      which of the calls that take long are made
  *   byte 22 and 24: words for what the fields become and for an entry of the tables
- * Zeros before a sheet are an input: all lengths as needed, a plan of zeros, a tariff of zeros and
- * an edit of cabinet 0 that changes nothing. */
+ *   byte 26      which call is made in a span, and how many entries the tables have before that
+ *   byte 27      how many entries the span has, beside those needed
+ *   byte 28 and 29: the lengths of the costs and the choices, beside the end of the span
+ *   byte 30      whether the span is cut, or moved to the end of the tables or far from them
+ *   byte 31      how the spans of two roads lie, which road is first, and whether there are two
+ * Zeros before a sheet are an input: all lengths as needed, a plan of zeros, a tariff of zeros, an
+ * edit of cabinet 0 that changes nothing, and a span that is all of the tables. */
 #ifndef INPUT_H
 #define INPUT_H
 
@@ -46,7 +51,13 @@ enum {
     EDIT_TURN,
     EDIT_AMOUNT,
     EDIT_ENTRY = EDIT_AMOUNT + 2,
-    CHOICES = EDIT_ENTRY + 2
+    SPAN_FIRST = EDIT_ENTRY + 2,
+    SPAN_NUMBER,
+    SPAN_COSTS,
+    SPAN_CHOICES,
+    SPAN_WAY,
+    SPAN_ROADS,
+    CHOICES
 };
 
 /* A word for the tariff is a figure within the limit if it is below this one; from here on it is

@@ -1,16 +1,19 @@
-/* kept.c: gz_keep and gz_edit on one input, and what the header says of them together. */
+/* kept.c: gz_keep, gz_edit and the calls in spans on one input, and what the header says of them
+ * together. */
 #include "kept.h"
 
 #include "chain.h"
 #include "edits.h"
+#include "joint.h"
 #include "keeper.h"
 #include "require.h"
+#include "spanned.h"
 #include "strange.h"
 #include "tally.h"
 
 /* What is done beside keeping the road once. Of a large road that takes long, so that only one of
  * these is done, as the input says. */
-enum turn { AGAIN, COPIED, DIRTY, CHAIN, STRANGE, TURNS };
+enum turn { AGAIN, COPIED, DIRTY, SPANS, CHAIN, STRANGE, TURNS };
 
 static void keep_as_found(const struct run *run, const struct reading *reading,
                           const struct planning *planning, struct tables *tables)
@@ -77,11 +80,15 @@ void keep_and_edit(const struct run *first, const struct run *second,
         edit_dirt(first, reading);
         edit_dirt(second, reading);
     }
+    if (is_turn(first, reading, SPANS))
+        call_spans(first, second, reading, planning, &tables);
     if (!is_taken(planning))
         return;
     begin_chain(first->input, reading, planning, &tables);
     if (is_turn(first, reading, CHAIN))
         run_chain(swapped ? second : first, swapped ? first : second);
+    if (!is_large(reading) && shares_tables(first->input))
+        share_tables(swapped ? first : second);
     if (is_turn(first, reading, STRANGE))
         edit_strange(first, second);
 }

@@ -5,7 +5,7 @@
 
 #include "arena.h"
 
-enum { MOST_LENT = MOST_ENTRIES + MOST_LENGTH_ADDED, MOST_BYTES = MOST_LENT * sizeof(uint64_t) };
+enum { MOST_BYTES = MOST_LENT * sizeof(uint64_t), PLACE_BITS = 8 };
 
 /* What dirty memory can hold: zeros, ones, noise, or small numbers as in a planner's tables. */
 enum { ZEROS, ONES, NOISE, SMALL, DIRTS };
@@ -19,6 +19,7 @@ static struct arena arenas[PIECES] = {
     [COPY] = {.name = "output of gz_tidy", .most = MOST_COPY + MOST_LENGTH_ADDED},
     [RESULT] = {.name = "counts, answer or record", .most = MOST_RESULT * sizeof(uint64_t)},
     [LINES] = {.name = "lines", .most = (MOST_LINES + MOST_LENGTH_ADDED) * sizeof(uint64_t)},
+    [OTHER_OUTPUT] = {.name = "output of another road", .most = MOST_PLACES * sizeof(uint16_t)},
 };
 
 static uint8_t dirt[DIRTS][MOST_BYTES];
@@ -66,7 +67,9 @@ struct run with_sheet(const struct run *run, struct input *input, const uint8_t 
 
 static void *lend(const struct run *run, enum piece piece, size_t bytes)
 {
-    return arena_lend(&arenas[piece], bytes, (run->places >> piece) % 2 ? AT_START : AT_END);
+    unsigned bit = run->places >> piece % PLACE_BITS & 1;
+
+    return arena_lend(&arenas[piece], bytes, bit ? AT_START : AT_END);
 }
 
 const uint8_t *lend_sheet(const struct run *run)
@@ -106,9 +109,9 @@ void *lend_dirty(const struct run *run, enum piece piece, size_t bytes)
     return memory;
 }
 
-void copy_dirt(const struct run *run, void *into, size_t bytes)
+void copy_dirt(const struct run *run, size_t from, void *into, size_t bytes)
 {
-    memcpy(into, dirt[run->dirt], bytes);
+    memcpy(into, dirt[run->dirt] + from, bytes);
 }
 
 int is_dirty(const struct run *run, const void *memory, size_t used, size_t bytes)

@@ -12,6 +12,7 @@ enum {
     MOST_CABINETS = 200,
     MOST_STREAMS = 100,
     MOST_ENTRIES = MOST_CABINETS << MOST_SERVICES,
+    MOST_LENT = MOST_ENTRIES + 3 * MOST_LENGTH_ADDED, /* before, in and after a span */
     MOST_PLACES = MOST_SERVICES + MOST_LENGTH_ADDED,
     MOST_SHEET = 80000,
     MOST_COPY = 16 + 2 * MOST_SERVICES + 14 * MOST_CABINETS + 6 * MOST_STREAMS + 2
@@ -21,7 +22,7 @@ enum {
 };
 
 /* The pieces, by the bit of an input's places that says where each lies. */
-enum piece { SHEET, PLAN, OUTPUT, COSTS, CHOICE_TABLE, COPY, RESULT, LINES, PIECES };
+enum piece { SHEET, PLAN, OUTPUT, COSTS, CHOICE_TABLE, COPY, RESULT, LINES, OTHER_OUTPUT, PIECES };
 
 /* Each input is run twice: every piece at its other place, and with other dirt. */
 struct run {
@@ -49,8 +50,8 @@ uint64_t *lend_result(const struct run *run, size_t places);
 /* An output or a table, full of the run's dirt. */
 void *lend_dirty(const struct run *run, enum piece piece, size_t bytes);
 
-/* Copies the run's dirt. */
-void copy_dirt(const struct run *run, void *into, size_t bytes);
+/* Copies the run's dirt, from this byte of a table on. */
+void copy_dirt(const struct run *run, size_t from, void *into, size_t bytes);
 
 /* True if these bytes of an output or a table, from `used` on, still hold the run's dirt. */
 int is_dirty(const struct run *run, const void *memory, size_t used, size_t bytes);

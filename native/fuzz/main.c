@@ -9,6 +9,7 @@
 
 #include "damage.h"
 #include "dearest.h"
+#include "example.h"
 #include "random.h"
 #include "require.h"
 #include "sheets.h"
@@ -21,9 +22,9 @@ enum { GATE_INPUTS = 100000, GATE_SEED = 1, MOST_WORDS = 12 };
 static const char usage[] =
     "usage: fuzz [INPUTS [SEED]]\n"
     "Makes INPUTS inputs (default %d) from SEED (default %d), runs the target on each, and prints\n"
-    "how often each answer and some kinds of plans, bills and edits were met. From %d inputs on,\n"
-    "it is a failure too if a call never gave an answer that it may give, or if no plan, bill or\n"
-    "edit of such a kind was met.\n";
+    "how often each answer and some kinds of plans, bills, edits and spans were met. From %d\n"
+    "inputs on, it is a failure too if a call never gave an answer that it may give, or if no\n"
+    "plan, bill, edit or span of such a kind was met.\n";
 
 /* The input under way, for the line that a failure ends with. */
 static char under_way[64];
@@ -53,12 +54,26 @@ static void watch(void)
         require(sigaction(watched[i], &action, &before[i]) == 0, "the handler is set");
 }
 
+/* Mostly a span of the length needed that ends with the tables. The source is seeded by the one of
+ * the other choices, which do not depend on it. */
+static void draw_span(uint64_t seed, uint8_t choice[CHOICES])
+{
+    struct random random = {~seed};
+    int i;
+
+    for (i = SPAN_FIRST; i < CHOICES; i++)
+        choice[i] = (uint8_t)random_next(&random);
+    for (i = SPAN_NUMBER; i <= SPAN_WAY; i++)
+        if (!random_once_in(&random, 4))
+            choice[i] = 0;
+}
+
 /* Mostly lengths as needed, so that a good part of the sheets is planned. */
 static void draw_choices(struct random *random, uint8_t choice[CHOICES])
 {
     int i;
 
-    for (i = 0; i < CHOICES; i++)
+    for (i = 0; i < SPAN_FIRST; i++)
         choice[i] = (uint8_t)random_next(random);
     for (i = OUTPUT_LENGTH; i <= COPY_LENGTH; i++)
         if (!random_once_in(random, 4))
@@ -67,11 +82,12 @@ static void draw_choices(struct random *random, uint8_t choice[CHOICES])
     if (!random_once_in(random, 4))
         choice[LINES_LENGTH] = 0;
     draw_tariff(random, choice);
+    draw_span(random->state, choice);
 }
 
 static size_t draw_bytes(struct random *random, uint8_t *bytes)
 {
-    size_t length = random_below(random, random_once_in(random, 16) ? 400 : 31 + CHOICES);
+    size_t length = random_below(random, random_once_in(random, 16) ? 400 : 25 + CHOICES);
     size_t i;
 
     for (i = 0; i < length; i++)
@@ -107,7 +123,7 @@ static size_t draw_input(struct random *random, uint8_t *bytes)
     if (random_once_in(random, 2048))
         return draw_dearest(random, bytes);
     draw_words(random, bytes[TAIL], words);
-    length = random_once_in(random, 16) ? example_sheet(random, sheet)
+    length = random_once_in(random, 16) ? example_sheet(sheet, random_once_in(random, 2))
                                         : draw_sheet(random, sheet, words);
     if (kind < 8)
         length = damage_sheet(random, sheet, length);
@@ -155,6 +171,7 @@ int main(int argc, char **argv)
     missing = tell();
     if (missing == 0 || inputs < GATE_INPUTS)
         return 0;
-    fprintf(stderr, "%d answers or kinds of plans, bills and edits were never met\n", missing);
+    fprintf(stderr, "%d answers or kinds of plans, bills, edits and spans were never met\n",
+            missing);
     return 1;
 }

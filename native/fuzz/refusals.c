@@ -26,7 +26,10 @@ static const struct refusal {
     {19, SHEET_WRITER, "19  the service of a barred pair is not below r, or its cabinet not below "
                        "s"},
     {10, LENDER, "10  the planner's output is shorter than r places"},
-    {11, LENDER, "11  a table is shorter than s * 2^r entries"},
+    {24, LENDER, "24  the first entry of the span plus its number of entries is above the length "
+                 "of a table"},
+    {11, LENDER, "11  a table is shorter than s * 2^r entries, or, if the call names a span, the "
+                 "span is"},
     {13, PLAN_WRITER, "13  it hasn't exactly r places"},
     {14, PLAN_WRITER, "14  a cabinet number is not below s"},
     {20, PLAN_WRITER, "20  a service is on a cabinet that it is barred from"},

@@ -7,7 +7,7 @@
 
 #include "lent.h"
 
-enum { LAST_REFUSAL = 23 };
+enum { LAST_REFUSAL = 24 };
 
 /* Who can have caused a refusal. */
 enum { NOBODY, SHEET_WRITER, LENDER, ROAD, PLAN_WRITER };

@@ -5,7 +5,8 @@ set -euo pipefail
 ulimit -c 0
 
 build=target/native
-wrapped=(read service cabinet stream barred check plan keep edit bill tidy bound)
+wrapped=(read service cabinet stream barred check plan keep edit plan_span keep_span edit_span bill
+    tidy bound)
 
 # Compiles the given files, beside the target and the driver, into a program of the given name.
 compile() {
@@ -17,6 +18,7 @@ compile() {
         native/fuzz/{tariffs,dearest,random}.c \
         native/fuzz/{target,rules,layout,reader,checker,loads,planner,rivals,tidy,copy}.c \
         native/fuzz/{kept,workspace,keeper,entries,tables,editor,edits,chain,strange}.c \
+        native/fuzz/{spanned,spanner,span,pair,joint,example}.c \
         native/fuzz/{bill,reckoning,tally,refusals,lent,input,arena,require}.c \
         target/staticlib/libgazrieksne.a -o "$build/$name"
 }
@@ -33,7 +35,7 @@ compile fuzz-faulty "${wrapped[@]/#/-Wl,--wrap=gz_}" \
     native/fuzz/{faulty,faults_sheet,faults_fourth,faults_reader,faults_checker}.c \
     native/fuzz/{faults_framing,faults_planner,faults_first,faults_reckoning,faults_bill}.c \
     native/fuzz/{faults_lines,faults_copy,faults_tidy,faults_keep,faults_edit,faults_rows}.c \
-    native/fuzz/{faults_alike,held}.c
+    native/fuzz/{faults_alike,faults_spans,faults_outside,held}.c
 
 "$build/fuzz"
 

@@ -228,23 +228,3 @@ size_t draw_sheet(struct random *random, uint8_t *bytes, const uint16_t *words)
         fit_links(random, bytes, words);
     return length;
 }
-
-/* M or M0, which differ in the capacity of the root. */
-size_t example_sheet(struct random *random, uint8_t *bytes)
-{
-    static const uint16_t words[34] = {
-        2, 3, 1, 16, 20, 62, 68, 0, /* header */
-        2, 2,                       /* services */
-        65535, 4, 5, 0, 0, 0, 0,    /* cabinet 0, the root */
-        0, 3, 1, 6, 2, 6, 1,        /* cabinet 1 */
-        0, 3, 2, 2, 1, 6, 1,        /* cabinet 2 */
-        0, 1, 3                     /* the stream */
-    };
-    size_t i;
-
-    for (i = 0; i < 34; i++)
-        put_word(bytes, 2 * i, words[i]);
-    if (random_once_in(random, 2))
-        put_word(bytes, 22, 0);
-    return 68;
-}

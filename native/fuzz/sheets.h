@@ -13,7 +13,4 @@ enum { MOST_ROAD_SHEET = 12000 };
  * links are made for the plan that the words say (see links.h). */
 size_t draw_sheet(struct random *random, uint8_t *bytes, const uint16_t *words);
 
-/* Writes one of the two sheets in examples/ and gives its length. */
-size_t example_sheet(struct random *random, uint8_t *bytes);
-
 #endif

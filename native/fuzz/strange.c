@@ -38,8 +38,8 @@ void edit_dirt(const struct run *run, const struct reading *reading)
     size_t cabinet = outside ? cabinet_outside(run->input, s) : edited_cabinet(run->input, s);
     struct planning editing;
 
-    copy_dirt(run, tables.costs, entries * sizeof *tables.costs);
-    copy_dirt(run, tables.choices, entries * sizeof *tables.choices);
+    copy_dirt(run, 0, tables.costs, entries * sizeof *tables.costs);
+    copy_dirt(run, 0, tables.choices, entries * sizeof *tables.choices);
     editing = edit_checked(run, reading, cabinet, &tables);
     count_strange(&editing);
 }

@@ -1,4 +1,5 @@
-/* tally.c: how often each answer was met, and how often some kinds of plans, bills and edits. */
+/* tally.c: how often each answer was met, and how often some kinds of plans, bills, edits and
+ * spans. */
 #include "tally.h"
 
 #include "gazrieksne.h"
@@ -81,4 +82,53 @@ void count_strange(const struct planning *editing)
     tally.kinds[STRANGE_PLAN] += editing->number == 0;
     tally.kinds[STRANGE_NONE] += editing->number == 12;
     tally.kinds[STRANGE_TOLD] += editing->number == 23;
+}
+
+/* True if the bit of the cause is set. */
+static int has(unsigned causes, int cause)
+{
+    return (int)(causes >> cause & 1);
+}
+
+/* For which tables 24 was given, and what it was given before. */
+static void count_past(unsigned causes, const struct span *span)
+{
+    int costs = has(causes, PAST_COSTS);
+    int choices = has(causes, PAST_CHOICES);
+
+    tally.kinds[COSTS_ALONE] += costs && !choices;
+    tally.kinds[CHOICES_ALONE] += choices && !costs;
+    tally.kinds[BOTH_TABLES] += costs && choices;
+    tally.kinds[WRAPPED] += sum_wraps(span) && span->first + span->number <= shorter_table(span);
+    tally.kinds[BEFORE_SHORT] += has(causes, SHORT_SPAN);
+    tally.kinds[BEFORE_CABINET] += has(causes, NO_CABINET);
+}
+
+void count_span(uint64_t number, unsigned causes, const struct span *span, size_t needed)
+{
+    size_t end = shorter_table(span);
+    int differ = span->costs_len != span->choices_len;
+
+    if (number == 24)
+        count_past(causes, span);
+    tally.kinds[BEFORE_SPAN] +=
+        number == 10 && (has(causes, PAST_COSTS) || has(causes, PAST_CHOICES));
+    tally.kinds[EMPTY_SPAN] += number == 11 && span->number == 0 && span->first == end;
+    tally.kinds[EXACT_SPAN] += number == 0 && differ && span->first + span->number == end;
+    tally.kinds[LONG_SPAN] += number == 0 && span->number > needed;
+    tally.kinds[LATER_SPAN] += number == 0 && span->first > 0;
+}
+
+void count_shared(const struct planning *editing)
+{
+    tally.kinds[EDITED_SPAN] += is_taken(editing);
+}
+
+void count_roads(int first, int apart, int called)
+{
+    if (first)
+        tally.kinds[apart ? APART_FIRST : TOUCHING_FIRST]++;
+    else
+        tally.kinds[apart ? APART : TOUCHING]++;
+    tally.kinds[called ? CALLED_FIRST : CALLED_SECOND]++;
 }

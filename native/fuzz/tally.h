@@ -1,4 +1,5 @@
-/* tally.h: how often each answer was met, and how often some kinds of plans, bills and edits. */
+/* tally.h: how often each answer was met, and how often some kinds of plans, bills, edits and
+ * spans. */
 #ifndef TALLY_H
 #define TALLY_H
 
@@ -7,16 +8,33 @@
 #include "bill.h"
 #include "planner.h"
 #include "refusals.h"
+#include "span.h"
 
 /* The calls whose answers are counted, and gz_bill's once more where 22 applies too and is passed
  * over. */
-enum column { READ, CHECK, FIND, KEEP, EDIT, BILL, PASSED, TIDY, COLUMNS };
+enum column {
+    READ,
+    CHECK,
+    FIND,
+    KEEP,
+    EDIT,
+    FIND_SPAN,
+    KEEP_SPAN,
+    EDIT_SPAN,
+    BILL,
+    PASSED,
+    TIDY,
+    COLUMNS
+};
 
 /* A run must have met bills with these loads, and with a tax that has these thousandths of a cent
  * past its last whole one. */
 enum { LOADS_SOUGHT = 5, THOUSANDTHS_SOUGHT = 3 };
 
-/* What is counted once for each input, for each bill, or for each edit. */
+/* What can stand in the way of a call in a span, in the order of giving. */
+enum { SHORT_OUTPUT, PAST_COSTS, PAST_CHOICES, SHORT_SPAN, NO_CABINET, SPAN_CAUSES };
+
+/* What is counted once for each input, for each bill, for each edit, or for each span. */
 enum kind {
     TIED,   /* inputs with a plan beside which another was met that costs as much */
     FRAMED, /* inputs that draw a plan refused with 16 for framing alone */
@@ -37,6 +55,24 @@ enum kind {
     STRANGE_PLAN,   /* edits with tables from elsewhere and a plan */
     STRANGE_NONE,   /* edits with tables from elsewhere and 12 */
     STRANGE_TOLD,   /* edits with tables from elsewhere and 23 */
+    COSTS_ALONE,    /* spans refused with 24 for the costs alone */
+    CHOICES_ALONE,  /* spans refused with 24 for the choices alone */
+    BOTH_TABLES,    /* spans refused with 24 for both */
+    WRAPPED,        /* spans refused with 24 whose sum, cut to 64 bits, lies in both */
+    BEFORE_SPAN,    /* spans refused with 10 where 24 applies too */
+    BEFORE_SHORT,   /* spans refused with 24 where 11 applies too */
+    BEFORE_CABINET, /* spans refused with 24 where 14 applies too */
+    EMPTY_SPAN,     /* spans of no entry at the end of a table, refused with 11 */
+    EXACT_SPAN,     /* plans in a span up to the end of the shorter table */
+    LONG_SPAN,      /* plans in a span longer than needed */
+    LATER_SPAN,     /* plans in a span that starts after entry 0 */
+    EDITED_SPAN,    /* edits of what was kept in a span, with a plan or 12 */
+    TOUCHING,       /* two roads in tables where the input's comes second, nothing between */
+    APART,          /* the same with entries between */
+    TOUCHING_FIRST, /* two roads in tables where the input's comes first, nothing between */
+    APART_FIRST,    /* the same with entries between */
+    CALLED_SECOND,  /* two roads of which the other one is kept first */
+    CALLED_FIRST,   /* two roads of which the input's is kept first */
     KINDS
 };
 
@@ -65,5 +101,16 @@ void count_outside(const struct planning *planning);
 
 /* Counts an edit with tables from elsewhere. */
 void count_strange(const struct planning *editing);
+
+/* Counts a call in a span, on an accepted sheet that needs so many entries: the number given, and
+ * a bit for each thing in its way. */
+void count_span(uint64_t number, unsigned causes, const struct span *span, size_t needed);
+
+/* Counts an edit of what was kept in a span. */
+void count_shared(const struct planning *editing);
+
+/* Counts two roads that share tables: whether the input's comes first there, whether there are
+ * entries between, and whether the input's is kept first. */
+void count_roads(int first, int apart, int called);
 
 #endif

@@ -6,8 +6,9 @@
 
 #include "tally.h"
 
-static const char *const columns[COLUMNS] = {"gz_read", "gz_check", "gz_plan",   "gz_keep",
-                                             "gz_edit", "gz_bill",  "before 22", "gz_tidy"};
+static const char *const columns[COLUMNS] = {
+    "gz_read",   "gz_check",  "gz_plan", "gz_keep",   "gz_edit", "plan_span",
+    "keep_span", "edit_span", "gz_bill", "before 22", "gz_tidy"};
 
 static const char *const kinds[KINDS] = {
     [TIED] = "plans beside which another costs as much",
@@ -37,11 +38,35 @@ static const char *const kinds[KINDS] = {
     [STRANGE_PLAN] = "edits with tables from elsewhere and a plan",
     [STRANGE_NONE] = "edits with tables from elsewhere and 12",
     [STRANGE_TOLD] = "edits with tables from elsewhere and 23",
+    [COSTS_ALONE] = "spans refused with 24 for the costs alone",
+    [CHOICES_ALONE] = "spans refused with 24 for the choices alone",
+    [BOTH_TABLES] = "spans refused with 24 for both tables",
+    [WRAPPED] = "spans refused with 24 whose sum would do if cut to 64 bits",
+    [BEFORE_SPAN] = "spans refused with 10 where 24 applies too",
+    [BEFORE_SHORT] = "spans refused with 24 where 11 applies too",
+    [BEFORE_CABINET] = "spans refused with 24 where 14 applies too",
+    [EMPTY_SPAN] = "spans of no entry at the end of a table, refused with 11",
+    [EXACT_SPAN] = "plans in a span up to the end of the shorter table",
+    [LONG_SPAN] = "plans in a span longer than needed",
+    [LATER_SPAN] = "plans in a span that starts after entry 0",
+    [EDITED_SPAN] = "edits of what was kept in a span",
+    [TOUCHING] = "pairs of roads in spans that touch, the input's second",
+    [APART] = "pairs of roads with entries between, the input's second",
+    [TOUCHING_FIRST] = "pairs of roads in spans that touch, the input's first",
+    [APART_FIRST] = "pairs of roads with entries between, the input's first",
+    [CALLED_SECOND] = "pairs of roads of which the other one is kept first",
+    [CALLED_FIRST] = "pairs of roads of which the input's is kept first",
 };
 
 static int plans(int column)
 {
-    return column == FIND || column == KEEP || column == EDIT;
+    return column >= FIND && column <= EDIT_SPAN;
+}
+
+/* True if the call names a span. */
+static int is_spanned(int column)
+{
+    return column >= FIND_SPAN && column <= EDIT_SPAN;
 }
 
 /* True if memory is lent to the call whose lender causes this number. */
@@ -52,6 +77,8 @@ static int is_lent(int column, uint64_t number)
         return column == TIDY;
     case 22:
         return column == BILL;
+    case 24:
+        return is_spanned(column);
     default:
         return plans(column);
     }
@@ -60,7 +87,7 @@ static int is_lent(int column, uint64_t number)
 /* True if whoever wrote the plan, or passes a cabinet and tables, causes this number. */
 static int is_passed(int column, uint64_t number)
 {
-    if (column == EDIT)
+    if (column == EDIT || column == EDIT_SPAN)
         return number == 14 || number == 23;
     return number != 23 && (column == CHECK || column == BILL || column == PASSED);
 }
@@ -100,7 +127,7 @@ static int tell_number(uint64_t number)
     return missing;
 }
 
-/* Prints how often plans, bills or edits of a kind were met. Gives 1 if none was. */
+/* Prints how often plans, bills, edits or spans of a kind were met. Gives 1 if none was. */
 static int tell_kind(int kind)
 {
     printf("%" PRIu64 " %s\n", tally.kinds[kind], kinds[kind]);

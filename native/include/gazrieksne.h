@@ -6,7 +6,7 @@
  * less work after a change of one cabinet, makes the carrier's bill of a plan, and writes tidy
  * copies of sheets. It keeps no state, allocates nothing, and calls nothing of yours; any number of
  * threads may call it at once, each with memory of its own. What is kept from one plan to the next
- * stands in tables that you lend.
+ * stands in tables that you lend; several roads can share a pair of tables, each in its own span.
  *
  * The sheet
  * ---------
@@ -46,8 +46,8 @@
  * tell. Their first place holds the group of the refusal, that is, who can have caused it. If
  * several refusals apply, the one that is first in this order is given: 1 to 9, 18 and 19 for every
  * call that takes a sheet, then 10, 11 and 12 for gz_plan and gz_keep, 10, 11, 14 and then 12 or 23
- * for gz_edit, 13, 14, 20, 15 and 16 for gz_check, the same five and then 22 for gz_bill, and 21
- * for gz_tidy.
+ * for gz_edit, the same with 24 between 10 and 11 for gz_plan_span, gz_keep_span and gz_edit_span,
+ * 13, 14, 20, 15 and 16 for gz_check, the same five and then 22 for gz_bill, and 21 for gz_tidy.
  *
  *   group 0: no refusal
  *   group 1: whoever wrote the sheet
@@ -67,7 +67,9 @@
  *     19  the service of a barred pair is not below r, or its cabinet not below s
  *   group 2: whoever lends memory
  *     10  the planner's output is shorter than r places
- *     11  a table is shorter than s * 2^r entries
+ *     24  the first entry of the span plus its number of entries is above the length of a table:
+ *         name a span that lies within both tables, or lend longer ones
+ *     11  a table is shorter than s * 2^r entries, or, if the call names a span, the span is
  *     21  the output is shorter than the sheet that is to be written there
  *     22  a price or the tax rate of the tariff is outside its limits, or there are too few places
  *         for the lines of the bill
@@ -178,7 +180,8 @@ uint64_t gz_plan(const uint8_t *sheet, size_t sheet_len, uint16_t *output, size_
  *            entry of the empty set tells how many splits this join weighed: pairs of a set and a
  *            part of it that can be placed before c. The sum of these is the count that is told.
  *            The row of cabinet 0 is 0.
- * If gz_edit is to use these entries, nothing but gz_edit may write to them from then on. */
+ * If gz_edit is to use these entries, nothing but gz_edit, or gz_edit_span with a span that starts
+ * where they do, may write to them from then on. */
 uint64_t gz_keep(const uint8_t *sheet, size_t sheet_len, uint16_t *output, size_t output_len,
                  uint64_t *costs, size_t costs_len, uint16_t *choices, size_t choices_len,
                  uint64_t answer[3]);
@@ -217,6 +220,41 @@ uint64_t gz_keep(const uint8_t *sheet, size_t sheet_len, uint16_t *output, size_
 uint64_t gz_edit(const uint8_t *sheet, size_t sheet_len, size_t cabinet, uint16_t *output,
                  size_t output_len, uint64_t *costs, size_t costs_len, uint16_t *choices,
                  size_t choices_len, uint64_t answer[3]);
+
+/* The same three calls in a span of the tables: some entries that stand together, the same in both
+ * tables. Each does what the call without a span would do if the entries of the span were the whole
+ * tables: it returns and tells the same, writes the same to the output, and leaves the same in the
+ * span. So row p of a table starts at its entry first + p * 2^r, and entries of the span behind the
+ * s * 2^r that are needed stay as they are. Entries outside the span never change, in any answer.
+ * gz_plan_span and gz_keep_span return 0, else 1 to 12, 18, 19 or 24, and gz_edit_span 0, else 1 to
+ * 12, 14, 18, 19, 23 or 24.
+ *   costs, costs_len      both tables whole, with the entries outside the span
+ *   choices, choices_len
+ *   first                 the number of the span's first entry; entries are numbered from 0
+ *   number                how many entries the span has. If first + number, which is never cut to
+ *                         64 bits, is above costs_len or choices_len, the answer is 24: the cost
+ *                         and the count are 0, the output and all entries are as before, and what
+ *                         was kept serves as before. Else, if number is below s * 2^r, it is 11,
+ *                         however long the tables are.
+ * gz_plan, gz_keep and gz_edit use the span that starts at entry 0 and has as many entries as the
+ * shorter table.
+ *
+ * So two roads can share one pair of tables: give each an output of its own and a span of its own,
+ * such that the spans have no entry in common. If one needs 12 entries and the other 96, tables of
+ * 108 entries suffice, with 0 and 12 for the span of the one and 12 and 96 for that of the other.
+ * Then one road's answers, outputs and entries are those of its own calls alone, whatever calls for
+ * the other come in between: what gz_keep_span left in a span, gz_edit_span takes from the same
+ * span. Calls with the same tables must come one after the other, never at once, even if their
+ * spans have no entry in common. */
+uint64_t gz_plan_span(const uint8_t *sheet, size_t sheet_len, uint16_t *output, size_t output_len,
+                      uint64_t *costs, size_t costs_len, uint16_t *choices, size_t choices_len,
+                      size_t first, size_t number, uint64_t answer[3]);
+uint64_t gz_keep_span(const uint8_t *sheet, size_t sheet_len, uint16_t *output, size_t output_len,
+                      uint64_t *costs, size_t costs_len, uint16_t *choices, size_t choices_len,
+                      size_t first, size_t number, uint64_t answer[3]);
+uint64_t gz_edit_span(const uint8_t *sheet, size_t sheet_len, size_t cabinet, uint16_t *output,
+                      size_t output_len, uint64_t *costs, size_t costs_len, uint16_t *choices,
+                      size_t choices_len, size_t first, size_t number, uint64_t answer[3]);
 
 /* Makes the carrier's monthly bill of a plan, in cents. Returns 0, else 1 to 9, 13 to 16, 18 to 20
  * or 22.
