@@ -26,7 +26,7 @@ use Rattle.edit.specs.Edits.{rules-before, number-before, Edits}
 use Rattle.edit.specs.Lists as lists
 use Rattle.edit.specs.Lists.{Kind, planning, keeping, editing, Does, Turn, OnSpan, Last, nothing, next, Allowed, InTheRule, AllFresh}
 use Rattle.edit.specs.Roads as roads
-use Rattle.edit.specs.Roads.{Road, one, other, same-road, Shared, own, OnTables, Agree, Alike, Same, AllPairs}
+use Rattle.edit.specs.Roads.{Road, one, other, same-road, Shared, own, OnTables, AgreeOn, Alike, Same, AllPairs}
 use Rattle.edit.proofs.Lists.{leaves-within, zeros-long, kept-costs-long, kept-choices-long, refusing, does-lengths, does-apart}
 use Rattle.edit.proofs.Lists.{Holds, edit-keeps, holds-now, holds-then, all-fresh}
 
@@ -36,8 +36,8 @@ use Rattle.edit.proofs.Lists.{Holds, edit-keeps, holds-now, holds-then,
 record Meet (s : Span) (c d : Call) : Type 0 where
   pub first : c .span ≡ s
   pub second : d .span ≡ s
-  pub costs : Agree s (c .costs) (d .costs)
-  pub choices : Agree s (c .choices) (d .choices)
+  pub costs : AgreeOn s (c .costs) (d .costs)
+  pub choices : AgreeOn s (c .choices) (d .choices)
 
 -- of the lengths of both tables an edit's refusal beforehand counts only whether the span runs past them
 before-past : (bytes : List ℕ) (e output : ℕ) (span : Span) (costs choices costs₂ choices₂ : ℕ)
@@ -261,13 +261,13 @@ runs-same (c ∷ cs) (d ∷ ds) s pc pu p q l H O N A R = (
 
 module _ (spans : Road → Span) (apart : Apart (spans one) (spans other)) (r : Road) where
   -- a road's own calls see only what agrees
-  run-agrees : (t u t₂ u₂ : List ℕ) (cs : List Turn) → Agree (spans r) t t₂ → Agree (spans r) u u₂ → Run spans apart r t₂ u₂ cs → Run spans apart r t u cs
+  run-agrees : (t u t₂ u₂ : List ℕ) (cs : List Turn) → AgreeOn (spans r) t t₂ → AgreeOn (spans r) u u₂ → Run spans apart r t₂ u₂ cs → Run spans apart r t u cs
   run-agrees t u t₂ u₂ cs a b R =
       subst₂ (λ (pc pu : Bool). OwnRun (spans r) pc pu (within (spans r) t) (within (spans r) u) cs) (sym (a .past)) (sym (b .past))
       (subst₂ (λ (p q : List ℕ). OwnRun (spans r) (runs-past (spans r) (length t₂)) (runs-past (spans r) (length u₂)) p q cs) (sym (a .entries)) (sym (b .entries)) R)
 
   -- One road's answers, outputs and entries are those of its own calls alone, whatever the other road's calls are.
-  pub same-alone : (t u t₂ u₂ : List ℕ) (xs ys : List Shared) → OnTables spans t u xs → OnTables spans t₂ u₂ ys → Agree (spans r) t t₂ → Agree (spans r) u u₂
+  pub same-alone : (t u t₂ u₂ : List ℕ) (xs ys : List Shared) → OnTables spans t u xs → OnTables spans t₂ u₂ ys → AgreeOn (spans r) t t₂ → AgreeOn (spans r) u u₂
       → AllPairs Alike (own r xs) (own r ys) → InTheRule nothing (own r xs) → AllPairs (Same (spans r)) (own r xs) (own r ys)
   same-alone t u t₂ u₂ xs ys O N a b A R =
       runs-same (own r xs) (own r ys) (spans r) _ _ _ _ nothing tt (own-run spans apart r xs t u O)

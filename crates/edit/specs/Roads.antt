@@ -41,7 +41,7 @@ OnTables spans t u (x ∷ xs) =
     × OnTables spans (x .turn .call .costs') (x .turn .call .choices') xs
 
 -- two tables agree on a span: it runs past both or past neither, and they have the same entries in it
-pub record Agree (s : Span) (t t₂ : List ℕ) : Type 0 where
+pub record AgreeOn (s : Span) (t t₂ : List ℕ) : Type 0 where
   pub past : runs-past s (length t) ≡ runs-past s (length t₂)
   pub entries : within s t ≡ within s t₂
 

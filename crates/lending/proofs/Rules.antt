@@ -1,7 +1,7 @@
 -- The lender's refusals: which of them is given, and when there is none.
 use Prim.Native.Nat.{ℕ, zero, suc, _+_, _≤_, _<_}
 use native.Mathlib.Omega.{arith}
-use mathlib.Core.Logic.{⊎-elim, _↔_}
+use mathlib.Core.Logic.{⊎-elim, _↔_, _⊎_, inl, inr}
 use mathlib.Core.Path.{_≡_, refl, ap, ap₂, _∙_}
 use mathlib.Core.Bool.{Bool, true, false, _||_, cond}
 use mathlib.Core.List.{List, [], _∷_}
@@ -74,6 +74,14 @@ pub lender-past : (places entries output : ℕ) (span : Span) (costs choices cos
     → lender-rules places entries output costs choices span ≡ lender-rules places entries output costs₂ choices₂ span
 lender-past places entries output span costs choices costs₂ choices₂ c u =
     ap₂ (λ (p q : Bool). record { number = 10; applies = ltb output places } ∷ record { number = 24; applies = p || q } ∷ record { number = 11; applies = ltb (span .number) entries } ∷ []) c u
+
+-- the span runs past one of two tables exactly if first entry plus number of entries is above the length of one of them
+pub either-past : (span : Span) (costs choices : ℕ)
+    → (runs-past span costs || runs-past span choices ≡ true) ↔ ((costs < span .first + span .number) ⊎ (choices < span .first + span .number))
+either-past span costs choices = (
+  λ e. ⊎-elim (λ p. inl (ltb-true _ _ p)) (λ p. inr (ltb-true _ _ p)) (either (runs-past span costs) (runs-past span choices) e),
+  λ h. ⊎-elim (λ l. either-l _ (runs-past span choices) (lt-ltb costs _ l)) (λ l. either-r (runs-past span costs) _ (lt-ltb choices _ l)) h,
+)
 
 -- what `measure` answers tells the number
 pub room-enough : (n : ℕ) → Enough ≡ room n → n ≡ 0

@@ -3,6 +3,8 @@
 -- The definitions are those that the code's contracts name, as equalities for every input:
 --   `reading`                               what `sheet::read` answers          crates/sheet/src/lib.rt
 --   `checked`                               what `checker::check` answers       crates/checker/src/lib.rt
+--   `lender-rules`                          what `lending::measure` says of the memory lent and its span
+--                                                                               crates/lending/src/lib.rt
 --   `planned`, `OutputAfter`, `table-after` what `planner::plan` answers, and what output and tables hold after it
 --                                                                               crates/planner/src/lib.rt
 --   `planned`, `OutputAfter`, `front-after` what `planner::keep` answers, and what output and tables hold after it, by `kept-costs` and `kept-choices`
@@ -13,12 +15,12 @@
 --                                                                               crates/bill/src/lib.rt
 --   `Edits`                                 what `edit::edit` answers, and what output and tables hold after it: a relation, as tables from elsewhere leave
 --                                           some of it free                     crates/edit/src/lib.rt
--- and the C entry points `gz_read`, `gz_check`, `gz_plan`, `gz_keep`, `gz_edit`, `gz_tidy` and `gz_bill` have the same clauses in crates/gazrieksne/src. What the program
--- prints is `printed` in crates/report/specs/Text.antt, by the contract of `report::respond`.
+-- and the C entry points `gz_read`, `gz_check`, `gz_plan`, `gz_keep`, `gz_edit`, `gz_tidy` and `gz_bill` have the same clauses in crates/gazrieksne/src:
+-- `gz_plan_span`, `gz_keep_span` and `gz_edit_span` for any span, those without one for `whole`, all of the shorter table. What the program prints is `printed` in crates/report/specs/Text.antt, by the contract of `report::respond`.
 use Prim.Native.Nat.{ℕ, _+_, _-_, _*_, _^_, _≤_, _<_}
 use mathlib.Core.Logic.{_↔_, _⊎_, inl, inr}
 use mathlib.Core.Path.{_≡_, refl, ap, _∙_}
-use mathlib.Core.Bool.{true, _&&_}
+use mathlib.Core.Bool.{true, _&&_, _||_, cond}
 use mathlib.Core.List.{List}
 use lib.Dec.{ltb}
 use lib.ListN.{length, take, getD}
@@ -29,7 +31,7 @@ use Rattle.sheet.specs.Reading.{reading}
 use Rattle.sheet.specs.Instance.{Instance, WellFormed, instance}
 use Rattle.sheet.specs.Said.{Said}
 use Rattle.sheet.specs.Records.{pair-record}
-use Rattle.sheet.specs.Refusals.{number-of, giving, first-of, in-order}
+use Rattle.sheet.specs.Refusals.{number-of, first-applying, giving, first-of, in-order}
 use Rattle.sheet.specs.declared.Sheet.{Sheet}
 use Rattle.sheet.specs.declared.Pair.{Pair}
 use Rattle.sheet.specs.declared.PairRecord.the-variants as pairs
@@ -51,15 +53,25 @@ use Rattle.checker.specs.Answers as checks
 use Rattle.checker.specs.declared.Checked.{Checked}
 use Rattle.checker.specs.declared.Checked.the-variants as answers
 use Rattle.checker.proofs.Answers.{accepted-iff, right-group, cost-low, check-number, check-first, check-order}
+use Rattle.lending.specs.Spans.{whole, runs-past, Apart}
+use Rattle.lending.specs.Rules.{lender-rules}
+use Rattle.lending.specs.declared.Span.{Span}
+use Rattle.lending.proofs.Rules.{either-past, enough-iff, whole-rules}
 use Rattle.planner.specs.Answers as plan
 use Rattle.planner.specs.Answers.{Enough, planned}
-use Rattle.planner.specs.Lent.{used, front-after, table-after, OutputAfter}
+use Rattle.planner.specs.Lent.{front-after, table-after, OutputAfter}
 use Rattle.planner.specs.Kept.{kept-costs, kept-choices}
 use Rattle.planner.specs.declared.Planned.{Planned}
 use Rattle.planner.specs.declared.Planned.the-variants.{Plan, Refused}
 use Rattle.planner.proofs.Order.{plan-first, plan-order}
-use Rattle.edit.specs.Edits.{called, Call, rules-before, edit-numbers, edited, number-before, Edits}
-use Rattle.edit.specs.Lists.{InTheRule, AllFresh}
+use Rattle.edit.specs.Calls.{Call, called, asked}
+use Rattle.edit.specs.Edits.{rules-before, edit-numbers, number-before, Edits}
+use Rattle.edit.specs.Lists.{Kind, Does, Turn, OnSpan, nothing, InTheRule, AllFresh}
+use Rattle.edit.specs.Roads.{Road, one, other, Shared, own, OnTables, AgreeOn, Alike, Same, AllPairs}
+use Rattle.edit.proofs.Possible.{some-outcome}
+use Rattle.edit.proofs.Lists as lists
+use Rattle.edit.proofs.Roads as both
+use Rattle.edit.proofs.Roads.{same-alone}
 use Rattle.bill.specs.Tariff.{within-limits}
 use Rattle.bill.specs.Lines.{started, tax-on, line-count, line, net, tax, total}
 use Rattle.bill.specs.Answers as bill
@@ -80,27 +92,29 @@ use Rattle.theorems.proofs.Billing as billing
 use Rattle.theorems.proofs.Copying as copying
 use Rattle.theorems.proofs.Editing as editing
 use Rattle.theorems.proofs.Planning as planning
-use Rattle.theorems.specs.Promised.{Given, Maps, NoneCheaper, Best, Left, KeptLeft, SheetLeft, LinesLeft}
+use Rattle.theorems.proofs.Roads as roads
+use Rattle.theorems.specs.Promised.{Given, Maps, NoneCheaper, Best, Left, KeptLeft, SheetLeft, LinesLeft, OutsideStays}
 
 -- ---- Demand 1
 
--- Any bytes, with any memory lent, get a plan or one refusal, from 1 to 12, 18 or 19; it stands in the group of its number, and only 12 has a count.
+-- Any bytes, with any memory lent and any span of the tables, get a plan or one refusal, from 1 to 12, 18, 19 or 24; it stands in the group of its number,
+-- and only 12 has a count.
 -- (`planner::plan`, clause `answer`.)
 pub demand-1 :
-    (bytes : List ℕ) (output costs choices : ℕ) →
-    ((k : ℕ) × (n : ℕ) × (planned bytes output costs choices ≡ Plan k n))
-    ⊎ ((f : Refusal) × (n : ℕ) × (planned bytes output costs choices ≡ Refused f n) × Given plan.plan-numbers f × ((number-of f ≡ 12 → ⊥) → n ≡ 0))
+    (bytes : List ℕ) (output costs choices : ℕ) (span : Span) →
+    ((k : ℕ) × (n : ℕ) × (planned bytes output costs choices span ≡ Plan k n))
+    ⊎ ((f : Refusal) × (n : ℕ) × (planned bytes output costs choices span ≡ Refused f n) × Given plan.plan-numbers f × ((number-of f ≡ 12 → ⊥) → n ≡ 0))
 demand-1 = planning.answered
 
--- After a plan and after 12 the first s × 2^r entries of both tables are 0 and all others stay; after any other refusal both tables are as they
--- were. After a plan the output stays from place r on, after any refusal all of it. (`planner::plan`, clauses `output`, `costs`, `choices`.)
+-- After a plan and after 12 the first s × 2^r entries of the span are 0 in both tables and all others stay; after any other refusal both tables are as
+-- they were. After a plan the output stays from place r on, after any refusal all of it. (`planner::plan`, clauses `output`, `costs`, `choices`.)
 pub demand-1-memory :
-    (bytes output costs choices output' costs' choices' : List ℕ) (a : Planned) →
-    a ≡ planned bytes (length output) (length costs) (length choices) →
+    (bytes output costs choices output' costs' choices' : List ℕ) (span : Span) (a : Planned) →
+    a ≡ planned bytes (length output) (length costs) (length choices) span →
     OutputAfter (instance bytes) a output output' →
-    costs' ≡ table-after (instance bytes) a costs →
-    choices' ≡ table-after (instance bytes) a choices →
-    Left (instance bytes) a output costs choices output' costs' choices'
+    costs' ≡ table-after (instance bytes) a span costs →
+    choices' ≡ table-after (instance bytes) a span choices →
+    Left (instance bytes) a span output costs choices output' costs' choices'
 demand-1-memory = planning.left
 
 -- Any bytes and any plan get an answer of the check: a cost below 10^15, or one refusal, from 1 to 9, from 13 to 16, or from 18 to 20, in the group of
@@ -135,12 +149,12 @@ check-gives bytes plan =
 
 -- (`planner::plan`, clause `answer`.)
 pub plan-gives :
-    (bytes : List ℕ) (output costs choices : ℕ) →
-    (in-order giving (plan.all-rules bytes output costs choices) ≡ true)
-    × (plan.number (planned bytes output costs choices) ≡ first-of giving (plan.all-rules bytes output costs choices))
-plan-gives bytes output costs choices =
-    let o = plan-order bytes output costs choices in
-    (o, plan-first bytes output costs choices ∙ given-first (plan.all-rules bytes output costs choices) o)
+    (bytes : List ℕ) (output costs choices : ℕ) (span : Span) →
+    (in-order giving (plan.all-rules bytes output costs choices span) ≡ true)
+    × (plan.number (planned bytes output costs choices span) ≡ first-of giving (plan.all-rules bytes output costs choices span))
+plan-gives bytes output costs choices span =
+    let o = plan-order bytes output costs choices span in
+    (o, plan-first bytes output costs choices span ∙ given-first (plan.all-rules bytes output costs choices span) o)
 
 -- ---- Demand 2
 
@@ -157,44 +171,45 @@ demand-2 bytes h reads plan k =
 
 -- Every plan that the planner writes is accepted by the check, at the planner's cost. (`planner::plan`, clauses `answer` and `output`.)
 pub written-accepted :
-    (bytes output output' : List ℕ) (costs choices k n : ℕ) →
-    planned bytes (length output) costs choices ≡ Plan k n →
+    (bytes output output' : List ℕ) (costs choices : ℕ) (span : Span) (k n : ℕ) →
+    planned bytes (length output) costs choices span ≡ Plan k n →
     OutputAfter (instance bytes) (Plan k n) output output' →
     checked bytes (take (instance bytes .r) output') ≡ answers.Accepted k
 written-accepted = planning.accepted
 
 -- ---- Demand 3
 
--- On every sheet that the reader accepts, with memory enough and whatever it held, the planner gives a plan or 12. With a plan of cost k some
+-- On every sheet that the reader accepts, with memory enough, so that neither 10 nor 24 nor 11 applies, and whatever it held, the planner gives a plan or
+-- 12. With a plan of cost k some
 -- mapping that is feasible by Definition 1 and keeps the limits costs k, and no such mapping costs less; with 12 there is no such mapping. In both
 -- cases the count is that of the splits weighed, and is at most (s - 1) × 3^r. (`planner::plan`, clause `answer`.)
 pub demand-3 :
     (bytes : List ℕ) (h : Sheet) → reading bytes ≡ readings.Accepted h →
-    (output costs choices : ℕ) → Enough (instance bytes) output costs choices →
-    Best (instance bytes) (planned bytes output costs choices) × (weighed (instance bytes) ≤ (instance bytes .s - 1) * 3 ^ instance bytes .r)
-demand-3 bytes h reads output costs choices enough =
-    (planning.best-answer bytes h reads output costs choices enough, planning.weighed-le (instance bytes) (well-formed bytes h reads))
+    (output costs choices : ℕ) (span : Span) → Enough (instance bytes) output costs choices span →
+    Best (instance bytes) (planned bytes output costs choices span) × (weighed (instance bytes) ≤ (instance bytes .s - 1) * 3 ^ instance bytes .r)
+demand-3 bytes h reads output costs choices span enough =
+    (planning.best-answer bytes h reads output costs choices span enough, planning.weighed-le (instance bytes) (well-formed bytes h reads))
 
 -- So a plan is given exactly when some mapping is feasible and keeps the limits.
 pub plan-exactly-when :
     (bytes : List ℕ) (h : Sheet) → reading bytes ≡ readings.Accepted h →
-    (output costs choices : ℕ) → Enough (instance bytes) output costs choices →
-    (plan.number (planned bytes output costs choices) ≡ 0)
+    (output costs choices : ℕ) (span : Span) → Enough (instance bytes) output costs choices span →
+    (plan.number (planned bytes output costs choices span) ≡ 0)
     ↔ ((π : ℕ → ℕ) × (ρ : ℕ → List ℕ) × Feasible (road (instance bytes)) π ρ × Limits (instance bytes) π ρ)
-plan-exactly-when bytes h reads output costs choices enough = planning.exactly (instance bytes) (planned bytes output costs choices) (planning.best-answer bytes h reads output costs choices enough)
+plan-exactly-when bytes h reads output costs choices span enough = planning.exactly (instance bytes) (planned bytes output costs choices span) (planning.best-answer bytes h reads output costs choices span enough)
 
 -- The plan written: with some paths, what stands in the first r places of the output after a plan is a mapping that is feasible, keeps the
 -- limits and costs what is answered, and no mapping costs less. (`planner::plan`, clauses `answer` and `output`.)
 pub plan-written :
-    (bytes output output' : List ℕ) (costs choices k n : ℕ) →
-    planned bytes (length output) costs choices ≡ Plan k n →
+    (bytes output output' : List ℕ) (costs choices : ℕ) (span : Span) (k n : ℕ) →
+    planned bytes (length output) costs choices span ≡ Plan k n →
     OutputAfter (instance bytes) (Plan k n) output output' →
     Maps (instance bytes) (place (take (instance bytes .r) output')) k × NoneCheaper (instance bytes) k
-plan-written bytes output output' costs choices k n e o =
-    let p = planning.written bytes output output' costs choices k n e o in
+plan-written bytes output output' costs choices span k n e o =
+    let p = planning.written bytes output output' costs choices span k n e o in
     let W = well-formed bytes (p .0) (p .1) in (
       plan-iff-mapping (instance bytes) W (place (take (instance bytes .r) output')) k .0 (p .3, p .4),
-      cheapest-mapping (instance bytes) W k .0 (planning.plan-cheapest bytes (length output) costs choices k n e .3) .1,
+      cheapest-mapping (instance bytes) W k .0 (planning.plan-cheapest bytes (length output) costs choices span k n e .3) .1,
     )
 
 -- ---- The first of the cheapest
@@ -204,17 +219,17 @@ plan-written bytes output output' costs choices k n e o =
 -- cabinet of service 0, then of service 1, and so on. Which plan that is is told by `first-plan`, of the sheet alone. (`planner::plan`, clauses `answer`
 -- and `output`.)
 pub first-of-the-cheapest :
-    (bytes output output' : List ℕ) (costs choices k n : ℕ) →
-    planned bytes (length output) costs choices ≡ Plan k n →
+    (bytes output output' : List ℕ) (costs choices : ℕ) (span : Span) (k n : ℕ) →
+    planned bytes (length output) costs choices span ≡ Plan k n →
     OutputAfter (instance bytes) (Plan k n) output output' →
     (take (instance bytes .r) output' ≡ places (instance bytes .r) (first-plan (instance bytes)))
     × Maps (instance bytes) (place (take (instance bytes .r) output')) k
     × ((π : ℕ → ℕ) (ρ : ℕ → List ℕ) → Feasible (road (instance bytes)) π ρ → Limits (instance bytes) π ρ → cost (road (instance bytes)) π ρ ≡ k →
     NotAfter (instance bytes .r) (place (take (instance bytes .r) output')) π)
-first-of-the-cheapest bytes output output' costs choices k n e o = (
+first-of-the-cheapest bytes output output' costs choices span k n e o = (
   planning.first-places (instance bytes) k n output output' o,
-  plan-written bytes output output' costs choices k n e o .0,
-  planning.none-before bytes output output' costs choices k n e o,
+  plan-written bytes output output' costs choices span k n e o .0,
+  planning.none-before bytes output output' costs choices span k n e o,
 )
 
 -- ---- A tidy copy
@@ -288,7 +303,7 @@ tidy-twice bytes h reads = (ap tidied (copying.same bytes h reads .1), copying.s
 pub copy-plans-alike :
     (bytes : List ℕ) (h : Sheet) → reading bytes ≡ readings.Accepted h →
     (cheapest (instance (tidied (instance bytes))) ≡ cheapest (instance bytes))
-    × ((output costs choices : ℕ) → planned (tidied (instance bytes)) output costs choices ≡ planned bytes output costs choices)
+    × ((output costs choices : ℕ) (span : Span) → planned (tidied (instance bytes)) output costs choices span ≡ planned bytes output costs choices span)
     × ((plan : List ℕ) → checked (tidied (instance bytes)) plan ≡ checked bytes plan)
 copy-plans-alike bytes h reads =
     (ap cheapest (copying.same bytes h reads .1), copying.same-planned bytes h reads, copying.same-checked bytes h reads)
@@ -398,39 +413,35 @@ copy-bills-alike = billing.same-billed
 
 -- ---- One cabinet changed
 
--- After a plan and after 12 of a keeping call both tables are kept of the sheet's instance: each of their first s × 2^r entries is a function of the
--- instance alone, and all others stay; after any other refusal both tables are as they were. After a plan the output stays from place r on, after any
+-- After a plan and after 12 of a keeping call both tables are kept of the sheet's instance: each of the first s × 2^r entries of the span is a function of
+-- the instance alone, and all others stay; after any other refusal both tables are as they were. After a plan the output stays from place r on, after any
 -- refusal all of it. (`planner::keep`, clauses `answer`, `output`, `costs`, `choices`.)
 pub keep-memory :
-    (bytes output costs choices output' costs' choices' : List ℕ) (a : Planned) →
-    a ≡ planned bytes (length output) (length costs) (length choices) →
+    (bytes output costs choices output' costs' choices' : List ℕ) (span : Span) (a : Planned) →
+    a ≡ planned bytes (length output) (length costs) (length choices) span →
     OutputAfter (instance bytes) a output output' →
-    costs' ≡ front-after (instance bytes) a (kept-costs (instance bytes)) costs →
-    choices' ≡ front-after (instance bytes) a (kept-choices (instance bytes)) choices →
-    KeptLeft (instance bytes) a output costs choices output' costs' choices'
+    costs' ≡ front-after (instance bytes) a span (kept-costs (instance bytes)) costs →
+    choices' ≡ front-after (instance bytes) a span (kept-choices (instance bytes)) choices →
+    KeptLeft (instance bytes) a span output costs choices output' costs' choices'
 keep-memory = planning.left-kept
 
--- For every list of edits after a keeping call that gave a plan or 12, with nothing else writing the tables, where each edit that nothing refuses
--- beforehand has a sheet that differs from the last one taken in that cabinet's record only, its parent excepted: each such edit is taken, gives a plan
--- or 12, and its answer, its output and both tables are those of a keeping call on its sheet; each other leaves all memory; and none gives 23. Of an
--- edit no more is known there than its contract. (`planner::keep`, clauses `answer`, `costs`, `choices`; `edit::edit`.)
+-- For every list of planning, keeping and editing calls on one span, whatever it held before, with nothing else writing its entries, where each edit that
+-- nothing refuses beforehand comes after a keeping call that gave a plan or 12, with no planning call in between that did so, and has a sheet that differs
+-- from the last one taken in that cabinet's record only, its parent excepted: each such edit is taken, gives a plan or 12, and its answer, its output and
+-- both tables are those of a keeping call on its sheet; each other edit leaves all memory; and none gives 23. Of a call no more is known there than its
+-- contract. (`planner::plan`, `planner::keep`, `edit::edit`.)
 pub edits-fresh :
-    (bytes costs choices costs' choices' : List ℕ) (output : ℕ) (a : Planned) →
-    a ≡ planned bytes output (length costs) (length choices) →
-    costs' ≡ front-after (instance bytes) a (kept-costs (instance bytes)) costs →
-    choices' ≡ front-after (instance bytes) a (kept-choices (instance bytes)) choices →
-    used a ≡ true →
-    (ds : List Call) → InTheRule (instance bytes) costs' choices' ds → AllFresh ds
-edits-fresh bytes costs choices costs' choices' output a e t u h = editing.after-keeping bytes costs choices costs' choices' a h t u
+    (s : Span) (t u : List ℕ) (cs : List Turn) → OnSpan s t u cs → InTheRule nothing cs → AllFresh cs
+edits-fresh s t u cs on rule = lists.all-fresh cs s nothing t u tt on rule
 
--- The contract of an edit can be met: for every sheet, number and memory some answer and some memory after it stand in it.
+-- The contract of an edit can be met: for every sheet, number, memory and span some answer and some memory after it stand in it.
 pub edit-possible :
-    (sheet : List ℕ) (e : ℕ) (output costs choices : List ℕ) →
+    (sheet : List ℕ) (e : ℕ) (output costs choices : List ℕ) (span : Span) →
     (a : Planned) × (output' : List ℕ) × (costs' : List ℕ) × (choices' : List ℕ)
-    × Edits (called sheet e output costs choices a output' costs' choices')
-edit-possible = editing.some-outcome
+    × Edits (called sheet e output costs choices span a output' costs' choices')
+edit-possible = some-outcome
 
--- Any bytes, any number and any tables, with any memory lent, get a plan or one refusal, from 1 to 12, 14, 18, 19 or 23; it stands in the group of its
+-- Any bytes, any number and any tables, with any memory lent and any span, get a plan or one refusal, from 1 to 12, 14, 18, 19, 23 or 24; it stands in the group of its
 -- number, and only 12 has a count. (`edit::edit`.)
 pub edit-answers :
     (d : Call) → Edits d →
@@ -442,8 +453,8 @@ edit-answers = editing.answered
 -- one does. (`edit::edit`.)
 pub edit-gives :
     (d : Call) → Edits d →
-    (in-order giving (rules-before (d .sheet) (d .cabinet) (length (d .output)) (length (d .costs)) (length (d .choices))) ≡ true)
-    × (number-before d ≡ first-of giving (rules-before (d .sheet) (d .cabinet) (length (d .output)) (length (d .costs)) (length (d .choices))))
+    (in-order giving (rules-before (d .sheet) (d .cabinet) (length (d .output)) (length (d .costs)) (length (d .choices)) (d .span)) ≡ true)
+    × (number-before d ≡ first-of giving (rules-before (d .sheet) (d .cabinet) (length (d .output)) (length (d .costs)) (length (d .choices)) (d .span)))
     × ((number-before d ≡ 0 → ⊥) → plan.number (d .answer) ≡ number-before d)
 edit-gives = editing.gives
 
@@ -452,5 +463,51 @@ edit-gives = editing.gives
 pub edit-plan-accepted :
     (d : Call) → Edits d →
     (k n : ℕ) → d .answer ≡ Plan k n →
-    (checked (d .sheet) (take (edited d .r) (d .output')) ≡ answers.Accepted k) × Maps (edited d) (place (take (edited d .r) (d .output'))) k
+    (checked (d .sheet) (take (asked d .r) (d .output')) ≡ answers.Accepted k) × Maps (asked d) (place (take (asked d .r) (d .output'))) k
 edit-plan-accepted = editing.plan-accepted
+
+-- ---- Two roads, a single pair of tables
+
+-- 24 applies exactly if first entry plus number of entries is above either table's length; and the memory is enough exactly if the output has r places,
+-- that sum is above neither length, and the span has s × 2^r entries. (`lending::measure`.)
+pub span-measured :
+    (I : Instance) (output costs choices : ℕ) (span : Span) →
+    ((runs-past span costs || runs-past span choices ≡ true) ↔ ((costs < span .first + span .number) ⊎ (choices < span .first + span .number)))
+    × (Enough I output costs choices span
+    ↔ ((I .r ≤ output) × (span .first + span .number ≤ costs) × (span .first + span .number ≤ choices) × (plan.entries I ≤ span .number)))
+span-measured I output costs choices span =
+    (either-past span costs choices, enough-iff (I .r) (plan.entries I) output costs choices span)
+
+-- On the whole of the shorter table, which the calls without a span take, there is no 24, and 11 is given where a table is shorter than s × 2^r entries.
+pub whole-measured :
+    (I : Instance) (output costs choices : ℕ) →
+    first-applying (lender-rules (I .r) (plan.entries I) output costs choices (whole costs choices))
+    ≡ cond (ltb output (I .r)) 10 (cond (ltb costs (plan.entries I) || ltb choices (plan.entries I)) 11 0)
+whole-measured I output costs choices = whole-rules (I .r) (plan.entries I) output costs choices
+
+-- No call, of whatever kind and with whatever answer, changes an entry outside its span, or a table's length. (`planner::plan`, `planner::keep`,
+-- `edit::edit`.)
+pub outside-stays :
+    (k : Kind) (d : Call) → Does k d →
+    OutsideStays (d .span) (d .costs) (d .costs') × OutsideStays (d .span) (d .choices) (d .choices')
+outside-stays = roads.outside
+
+-- For every two lists of calls on one pair of tables each, and two spans that do not overlap, each call on its road's span, with nothing else writing the
+-- tables: if one road's calls are made alike in both, and its edits are in the rule in the first, then its answers, its outputs and the entries of its span
+-- are the same in both after every call, whatever the other road's calls in either are, and whatever else the tables hold. With no calls of the other road
+-- in the second list: one road's answers, outputs and entries are those of its own calls alone. The other road's edits need not be in the rule.
+pub roads-alone :
+    (spans : Road → Span) → Apart (spans one) (spans other) →
+    (r : Road) (t u t₂ u₂ : List ℕ) (xs ys : List Shared) →
+    OnTables spans t u xs → OnTables spans t₂ u₂ ys →
+    AgreeOn (spans r) t t₂ → AgreeOn (spans r) u u₂ →
+    AllPairs Alike (own r xs) (own r ys) → InTheRule nothing (own r xs) →
+    AllPairs (Same (spans r)) (own r xs) (own r ys)
+roads-alone = same-alone
+
+-- And each of its edits that nothing refuses beforehand does what a keeping call on its sheet does, as in `edits-fresh`.
+pub roads-fresh :
+    (spans : Road → Span) → Apart (spans one) (spans other) →
+    (r : Road) (t u : List ℕ) (xs : List Shared) →
+    OnTables spans t u xs → InTheRule nothing (own r xs) → AllFresh (own r xs)
+roads-fresh = both.roads-fresh

@@ -55,7 +55,12 @@ pub record Stays (first n : ℕ) (table table' : List ℕ) : Type 0 where
   pub length-stays : length table' ≡ length table
   pub others : (i : ℕ) → (i < first) ⊎ (first + n ≤ i) → getD table' i 0 ≡ getD table i 0
 
--- those are 0 now, and all others stay
+-- all entries of a table outside a span stay, also of a span that runs past it
+pub record OutsideStays (span : Span) (table table' : List ℕ) : Type 0 where
+  pub length-stays : length table' ≡ length table
+  pub others : (i : ℕ) → (i < span .first) ⊎ (span .first + span .number ≤ i) → getD table' i 0 ≡ getD table i 0
+
+-- all entries stay but the n from the first one on, which are 0 now
 pub record Cleared (first n : ℕ) (table table' : List ℕ) : Type 0 where
   pub zeros : take n (drop first table') ≡ replicate n 0
   pub stays : Stays first n table table'
