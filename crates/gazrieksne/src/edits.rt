@@ -1,12 +1,11 @@
 // The entry points of the call that edits kept tables.
 ghost use mathlib.Core.Path.{_≡_};
-ghost use lib.ListN.{length};
-ghost use Rattle.lending.specs.Spans.{span-of, whole};
+ghost use Rattle.lending.specs.Spans.{span-of};
 ghost use Rattle.planner.specs.Answers.{number as plan-number};
 ghost use Rattle.planner.specs.declared.Planned.{Planned};
 ghost use Rattle.edit.specs.Calls.{called};
 ghost use Rattle.edit.specs.Edits.{Edits};
-ghost use Rattle.gazrieksne.specs.Plans.{plan-answer};
+ghost use Rattle.gazrieksne.specs.Plans.{whole-of, plan-answer};
 use crate::plans::tell;
 use lending::Span;
 
@@ -20,10 +19,10 @@ pub extern "C" fn gz_edit(
     choices: &mut [u16],
     answer: &mut [u64; 3],
 ) -> u64
-    ensures { λ r. ⌜ ((a : Planned) × Edits (called (now (bytes .entry)) cabinet (now (output .entry)) (now (costs .entry)) (now (choices .entry)) (whole (length (now (costs .entry))) (length (now (choices .entry)))) a (now (output .exit)) (now (costs .exit)) (now (choices .exit))) × (r ≡ plan-number a) × (now (answer .exit) ≡ plan-answer a)) ⌝ }
+    ensures { λ r. ⌜ ((a : Planned) × Edits (called (now (bytes .entry)) cabinet (now (output .entry)) (now (costs .entry)) (now (choices .entry)) (whole-of (now (costs .entry)) (now (choices .entry))) a (now (output .exit)) (now (costs .exit)) (now (choices .exit))) × (r ≡ plan-number a) × (now (answer .exit) ≡ plan-answer a)) ⌝ }
 {
-    let span = Span::whole(costs.len(), choices.len());
-    let answered = edit::edit(bytes, cabinet, output, costs, choices, span);
+    let all = Span::whole(costs.len(), choices.len());
+    let answered = edit::edit(bytes, cabinet, output, costs, choices, all);
     tell(answered, answer)
 }
 

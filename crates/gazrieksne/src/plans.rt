@@ -1,13 +1,12 @@
 // The entry points of the planner, which clears the tables or keeps them, and of the bound.
 ghost use mathlib.Core.Path.{_≡_};
-ghost use lib.ListN.{length};
 ghost use Rattle.sheet.specs.Instance.{instance};
-ghost use Rattle.lending.specs.Spans.{span-of, whole};
-ghost use Rattle.planner.specs.Answers.{number as plan-number, planned};
+ghost use Rattle.lending.specs.Spans.{span-of};
+ghost use Rattle.planner.specs.Answers.{number as plan-number};
 ghost use Rattle.planner.specs.Lent.{front-after, table-after, OutputAfter};
 ghost use Rattle.planner.specs.Kept.{kept-costs, kept-choices};
 ghost use Rattle.planner.specs.Bounds.{split-bound, number as bound-number};
-ghost use Rattle.gazrieksne.specs.Plans.{plan-answer, bound-answer};
+ghost use Rattle.gazrieksne.specs.Plans.{whole-of, answer-with, plan-answer, bound-answer};
 use crate::reads::wide;
 use lending::Span;
 use planner::Planned;
@@ -39,14 +38,14 @@ pub extern "C" fn gz_plan(
     choices: &mut [u16],
     answer: &mut [u64; 3],
 ) -> u64
-    ensures refusal { λ r. ⌜ r ≡ plan-number (planned (now (bytes .entry)) (length (now (output .entry))) (length (now (costs .entry))) (length (now (choices .entry))) (whole (length (now (costs .entry))) (length (now (choices .entry))))) ⌝ }
-    ensures answer { λ r. ⌜ now (answer .exit) ≡ plan-answer (planned (now (bytes .entry)) (length (now (output .entry))) (length (now (costs .entry))) (length (now (choices .entry))) (whole (length (now (costs .entry))) (length (now (choices .entry))))) ⌝ }
-    ensures output { λ r. ⌜ OutputAfter (instance (now (bytes .entry))) (planned (now (bytes .entry)) (length (now (output .entry))) (length (now (costs .entry))) (length (now (choices .entry))) (whole (length (now (costs .entry))) (length (now (choices .entry))))) (now (output .entry)) (now (output .exit)) ⌝ }
-    ensures costs { λ r. ⌜ now (costs .exit) ≡ table-after (instance (now (bytes .entry))) (planned (now (bytes .entry)) (length (now (output .entry))) (length (now (costs .entry))) (length (now (choices .entry))) (whole (length (now (costs .entry))) (length (now (choices .entry))))) (whole (length (now (costs .entry))) (length (now (choices .entry)))) (now (costs .entry)) ⌝ }
-    ensures choices { λ r. ⌜ now (choices .exit) ≡ table-after (instance (now (bytes .entry))) (planned (now (bytes .entry)) (length (now (output .entry))) (length (now (costs .entry))) (length (now (choices .entry))) (whole (length (now (costs .entry))) (length (now (choices .entry))))) (whole (length (now (costs .entry))) (length (now (choices .entry)))) (now (choices .entry)) ⌝ }
+    ensures refusal { λ r. ⌜ r ≡ plan-number (answer-with (now (bytes .entry)) (now (output .entry)) (now (costs .entry)) (now (choices .entry)) (whole-of (now (costs .entry)) (now (choices .entry)))) ⌝ }
+    ensures answer { λ r. ⌜ now (answer .exit) ≡ plan-answer (answer-with (now (bytes .entry)) (now (output .entry)) (now (costs .entry)) (now (choices .entry)) (whole-of (now (costs .entry)) (now (choices .entry)))) ⌝ }
+    ensures output { λ r. ⌜ OutputAfter (instance (now (bytes .entry))) (answer-with (now (bytes .entry)) (now (output .entry)) (now (costs .entry)) (now (choices .entry)) (whole-of (now (costs .entry)) (now (choices .entry)))) (now (output .entry)) (now (output .exit)) ⌝ }
+    ensures costs { λ r. ⌜ now (costs .exit) ≡ table-after (instance (now (bytes .entry))) (answer-with (now (bytes .entry)) (now (output .entry)) (now (costs .entry)) (now (choices .entry)) (whole-of (now (costs .entry)) (now (choices .entry)))) (whole-of (now (costs .entry)) (now (choices .entry))) (now (costs .entry)) ⌝ }
+    ensures choices { λ r. ⌜ now (choices .exit) ≡ table-after (instance (now (bytes .entry))) (answer-with (now (bytes .entry)) (now (output .entry)) (now (costs .entry)) (now (choices .entry)) (whole-of (now (costs .entry)) (now (choices .entry)))) (whole-of (now (costs .entry)) (now (choices .entry))) (now (choices .entry)) ⌝ }
 {
-    let span = Span::whole(costs.len(), choices.len());
-    let answered = planner::plan(bytes, output, costs, choices, span);
+    let all = Span::whole(costs.len(), choices.len());
+    let answered = planner::plan(bytes, output, costs, choices, all);
     tell(answered, answer)
 }
 
@@ -61,11 +60,11 @@ pub extern "C" fn gz_plan_span(
     number: usize,
     answer: &mut [u64; 3],
 ) -> u64
-    ensures refusal { λ r. ⌜ r ≡ plan-number (planned (now (bytes .entry)) (length (now (output .entry))) (length (now (costs .entry))) (length (now (choices .entry))) (span-of first number)) ⌝ }
-    ensures answer { λ r. ⌜ now (answer .exit) ≡ plan-answer (planned (now (bytes .entry)) (length (now (output .entry))) (length (now (costs .entry))) (length (now (choices .entry))) (span-of first number)) ⌝ }
-    ensures output { λ r. ⌜ OutputAfter (instance (now (bytes .entry))) (planned (now (bytes .entry)) (length (now (output .entry))) (length (now (costs .entry))) (length (now (choices .entry))) (span-of first number)) (now (output .entry)) (now (output .exit)) ⌝ }
-    ensures costs { λ r. ⌜ now (costs .exit) ≡ table-after (instance (now (bytes .entry))) (planned (now (bytes .entry)) (length (now (output .entry))) (length (now (costs .entry))) (length (now (choices .entry))) (span-of first number)) (span-of first number) (now (costs .entry)) ⌝ }
-    ensures choices { λ r. ⌜ now (choices .exit) ≡ table-after (instance (now (bytes .entry))) (planned (now (bytes .entry)) (length (now (output .entry))) (length (now (costs .entry))) (length (now (choices .entry))) (span-of first number)) (span-of first number) (now (choices .entry)) ⌝ }
+    ensures refusal { λ r. ⌜ r ≡ plan-number (answer-with (now (bytes .entry)) (now (output .entry)) (now (costs .entry)) (now (choices .entry)) (span-of first number)) ⌝ }
+    ensures answer { λ r. ⌜ now (answer .exit) ≡ plan-answer (answer-with (now (bytes .entry)) (now (output .entry)) (now (costs .entry)) (now (choices .entry)) (span-of first number)) ⌝ }
+    ensures output { λ r. ⌜ OutputAfter (instance (now (bytes .entry))) (answer-with (now (bytes .entry)) (now (output .entry)) (now (costs .entry)) (now (choices .entry)) (span-of first number)) (now (output .entry)) (now (output .exit)) ⌝ }
+    ensures costs { λ r. ⌜ now (costs .exit) ≡ table-after (instance (now (bytes .entry))) (answer-with (now (bytes .entry)) (now (output .entry)) (now (costs .entry)) (now (choices .entry)) (span-of first number)) (span-of first number) (now (costs .entry)) ⌝ }
+    ensures choices { λ r. ⌜ now (choices .exit) ≡ table-after (instance (now (bytes .entry))) (answer-with (now (bytes .entry)) (now (output .entry)) (now (costs .entry)) (now (choices .entry)) (span-of first number)) (span-of first number) (now (choices .entry)) ⌝ }
 {
     let span = Span {
         first: first,
@@ -84,14 +83,14 @@ pub extern "C" fn gz_keep(
     choices: &mut [u16],
     answer: &mut [u64; 3],
 ) -> u64
-    ensures refusal { λ r. ⌜ r ≡ plan-number (planned (now (bytes .entry)) (length (now (output .entry))) (length (now (costs .entry))) (length (now (choices .entry))) (whole (length (now (costs .entry))) (length (now (choices .entry))))) ⌝ }
-    ensures answer { λ r. ⌜ now (answer .exit) ≡ plan-answer (planned (now (bytes .entry)) (length (now (output .entry))) (length (now (costs .entry))) (length (now (choices .entry))) (whole (length (now (costs .entry))) (length (now (choices .entry))))) ⌝ }
-    ensures output { λ r. ⌜ OutputAfter (instance (now (bytes .entry))) (planned (now (bytes .entry)) (length (now (output .entry))) (length (now (costs .entry))) (length (now (choices .entry))) (whole (length (now (costs .entry))) (length (now (choices .entry))))) (now (output .entry)) (now (output .exit)) ⌝ }
-    ensures costs { λ r. ⌜ now (costs .exit) ≡ front-after (instance (now (bytes .entry))) (planned (now (bytes .entry)) (length (now (output .entry))) (length (now (costs .entry))) (length (now (choices .entry))) (whole (length (now (costs .entry))) (length (now (choices .entry))))) (whole (length (now (costs .entry))) (length (now (choices .entry)))) (kept-costs (instance (now (bytes .entry)))) (now (costs .entry)) ⌝ }
-    ensures choices { λ r. ⌜ now (choices .exit) ≡ front-after (instance (now (bytes .entry))) (planned (now (bytes .entry)) (length (now (output .entry))) (length (now (costs .entry))) (length (now (choices .entry))) (whole (length (now (costs .entry))) (length (now (choices .entry))))) (whole (length (now (costs .entry))) (length (now (choices .entry)))) (kept-choices (instance (now (bytes .entry)))) (now (choices .entry)) ⌝ }
+    ensures refusal { λ r. ⌜ r ≡ plan-number (answer-with (now (bytes .entry)) (now (output .entry)) (now (costs .entry)) (now (choices .entry)) (whole-of (now (costs .entry)) (now (choices .entry)))) ⌝ }
+    ensures answer { λ r. ⌜ now (answer .exit) ≡ plan-answer (answer-with (now (bytes .entry)) (now (output .entry)) (now (costs .entry)) (now (choices .entry)) (whole-of (now (costs .entry)) (now (choices .entry)))) ⌝ }
+    ensures output { λ r. ⌜ OutputAfter (instance (now (bytes .entry))) (answer-with (now (bytes .entry)) (now (output .entry)) (now (costs .entry)) (now (choices .entry)) (whole-of (now (costs .entry)) (now (choices .entry)))) (now (output .entry)) (now (output .exit)) ⌝ }
+    ensures costs { λ r. ⌜ now (costs .exit) ≡ front-after (instance (now (bytes .entry))) (answer-with (now (bytes .entry)) (now (output .entry)) (now (costs .entry)) (now (choices .entry)) (whole-of (now (costs .entry)) (now (choices .entry)))) (whole-of (now (costs .entry)) (now (choices .entry))) (kept-costs (instance (now (bytes .entry)))) (now (costs .entry)) ⌝ }
+    ensures choices { λ r. ⌜ now (choices .exit) ≡ front-after (instance (now (bytes .entry))) (answer-with (now (bytes .entry)) (now (output .entry)) (now (costs .entry)) (now (choices .entry)) (whole-of (now (costs .entry)) (now (choices .entry)))) (whole-of (now (costs .entry)) (now (choices .entry))) (kept-choices (instance (now (bytes .entry)))) (now (choices .entry)) ⌝ }
 {
-    let span = Span::whole(costs.len(), choices.len());
-    let answered = planner::keep(bytes, output, costs, choices, span);
+    let all = Span::whole(costs.len(), choices.len());
+    let answered = planner::keep(bytes, output, costs, choices, all);
     tell(answered, answer)
 }
 
@@ -106,11 +105,11 @@ pub extern "C" fn gz_keep_span(
     number: usize,
     answer: &mut [u64; 3],
 ) -> u64
-    ensures refusal { λ r. ⌜ r ≡ plan-number (planned (now (bytes .entry)) (length (now (output .entry))) (length (now (costs .entry))) (length (now (choices .entry))) (span-of first number)) ⌝ }
-    ensures answer { λ r. ⌜ now (answer .exit) ≡ plan-answer (planned (now (bytes .entry)) (length (now (output .entry))) (length (now (costs .entry))) (length (now (choices .entry))) (span-of first number)) ⌝ }
-    ensures output { λ r. ⌜ OutputAfter (instance (now (bytes .entry))) (planned (now (bytes .entry)) (length (now (output .entry))) (length (now (costs .entry))) (length (now (choices .entry))) (span-of first number)) (now (output .entry)) (now (output .exit)) ⌝ }
-    ensures costs { λ r. ⌜ now (costs .exit) ≡ front-after (instance (now (bytes .entry))) (planned (now (bytes .entry)) (length (now (output .entry))) (length (now (costs .entry))) (length (now (choices .entry))) (span-of first number)) (span-of first number) (kept-costs (instance (now (bytes .entry)))) (now (costs .entry)) ⌝ }
-    ensures choices { λ r. ⌜ now (choices .exit) ≡ front-after (instance (now (bytes .entry))) (planned (now (bytes .entry)) (length (now (output .entry))) (length (now (costs .entry))) (length (now (choices .entry))) (span-of first number)) (span-of first number) (kept-choices (instance (now (bytes .entry)))) (now (choices .entry)) ⌝ }
+    ensures refusal { λ r. ⌜ r ≡ plan-number (answer-with (now (bytes .entry)) (now (output .entry)) (now (costs .entry)) (now (choices .entry)) (span-of first number)) ⌝ }
+    ensures answer { λ r. ⌜ now (answer .exit) ≡ plan-answer (answer-with (now (bytes .entry)) (now (output .entry)) (now (costs .entry)) (now (choices .entry)) (span-of first number)) ⌝ }
+    ensures output { λ r. ⌜ OutputAfter (instance (now (bytes .entry))) (answer-with (now (bytes .entry)) (now (output .entry)) (now (costs .entry)) (now (choices .entry)) (span-of first number)) (now (output .entry)) (now (output .exit)) ⌝ }
+    ensures costs { λ r. ⌜ now (costs .exit) ≡ front-after (instance (now (bytes .entry))) (answer-with (now (bytes .entry)) (now (output .entry)) (now (costs .entry)) (now (choices .entry)) (span-of first number)) (span-of first number) (kept-costs (instance (now (bytes .entry)))) (now (costs .entry)) ⌝ }
+    ensures choices { λ r. ⌜ now (choices .exit) ≡ front-after (instance (now (bytes .entry))) (answer-with (now (bytes .entry)) (now (output .entry)) (now (costs .entry)) (now (choices .entry)) (span-of first number)) (span-of first number) (kept-choices (instance (now (bytes .entry)))) (now (choices .entry)) ⌝ }
 {
     let span = Span {
         first: first,

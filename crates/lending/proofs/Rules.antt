@@ -34,14 +34,14 @@ module _ (places entries output costs choices : ℕ) (span : Span) where
     unfolding first-applying
     span-past e = simp (le-ltb output places long, e)
 
-    module _ (c : runs-past span costs ≡ false) (u : runs-past span choices ≡ false) where
+    module _ (past : runs-past span costs || runs-past span choices ≡ false) where
       pub short-span : span .number < entries → first-applying rules ≡ 11
       unfolding first-applying
-      short-span h = simp (le-ltb output places long, neither _ (runs-past span choices) c u, lt-ltb (span .number) entries h)
+      short-span h = simp (le-ltb output places long, past, lt-ltb (span .number) entries h)
 
       pub enough : entries ≤ span .number → first-applying rules ≡ 0
       unfolding first-applying
-      enough h = simp (le-ltb output places long, neither _ (runs-past span choices) c u, le-ltb (span .number) entries h)
+      enough h = simp (le-ltb output places long, past, le-ltb (span .number) entries h)
 
   -- none of three tests
   none-of : (p q r : Bool) → _≡_ {A = ℕ} (cond p 10 (cond q 24 (cond r 11 0))) 0 → (p ≡ false) × (q ≡ false) × (r ≡ false)
@@ -61,7 +61,7 @@ module _ (places entries output costs choices : ℕ) (span : Span) where
       ltb-false _ _ (neither-r (runs-past span costs) _ (f .1)),
       ltb-false _ _ (f .2),
     ),
-    λ h. enough (h .0) (le-ltb costs _ (h .1)) (le-ltb choices _ (h .2)) (h .3),
+    λ h. enough (h .0) (neither _ (runs-past span choices) (le-ltb costs _ (h .1)) (le-ltb choices _ (h .2))) (h .3),
   )
 
   -- the number given is one of the three

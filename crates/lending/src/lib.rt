@@ -59,10 +59,7 @@ pub fn measure(
     if output < places {
         return Measured::Refused(Refusal::Lender(10));
     }
-    if span.runs_past(costs) {
-        return Measured::Refused(Refusal::Lender(24));
-    }
-    if span.runs_past(choices) {
+    if span.runs_past(costs) | span.runs_past(choices) {
         return Measured::Refused(Refusal::Lender(24));
     }
     if span.number < entries {
