@@ -32,10 +32,12 @@ impl Span {
     pub fn runs_past(self, table: usize) -> bool
         ensures { λ b. ⌜ b ≡ runs-past self table ⌝ }
     {
-        if table < self.first {
+        let first = self.first;
+        let number = self.number;
+        if table < first {
             return true;
         }
-        table - self.first < self.number
+        table - first < number
     }
 }
 
@@ -56,13 +58,14 @@ pub fn measure(
 ) -> Measured
     ensures { λ m. ⌜ m ≡ room (first-applying (lender-rules places entries output costs choices span)) ⌝ }
 {
+    let number = span.number;
     if output < places {
         return Measured::Refused(Refusal::Lender(10));
     }
     if span.runs_past(costs) | span.runs_past(choices) {
         return Measured::Refused(Refusal::Lender(24));
     }
-    if span.number < entries {
+    if number < entries {
         return Measured::Refused(Refusal::Lender(11));
     }
     Measured::Enough

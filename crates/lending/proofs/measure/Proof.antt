@@ -19,23 +19,17 @@ start-before-then2 c = c .before .before .before .before
 abbrev else1-before-then2 : tie.Then2 → tie.Else1
 else1-before-then2 c = c .before .before .before
 
-abbrev runs-past2-before-then3 : tie.Then3 → tie.After-runs-past2
-runs-past2-before-then3 c = c .before .before .before
-
 abbrev start-before-then3 : tie.Then3 → tie.Start
-start-before-then3 c = c .before .before .before .before .before .before
+start-before-then3 c = c .before .before .before .before .before
 
 abbrev else1-before-then3 : tie.Then3 → tie.Else1
-else1-before-then3 c = c .before .before .before .before .before
-
-abbrev runs-past2-before-else3 : tie.Else3 → tie.After-runs-past2
-runs-past2-before-else3 c = c .before .before .before
+else1-before-then3 c = c .before .before .before .before
 
 abbrev start-before-else3 : tie.Else3 → tie.Start
-start-before-else3 c = c .before .before .before .before .before .before
+start-before-else3 c = c .before .before .before .before .before
 
 abbrev else1-before-else3 : tie.Else3 → tie.Else1
-else1-before-else3 c = c .before .before .before .before .before
+else1-before-else3 c = c .before .before .before .before
 
 returns : tie.Need-returns
 unfolding refusal
@@ -63,12 +57,12 @@ returns-3 : tie.Need-returns-3
 unfolding refusal
 returns-3 c =
     let a = start-before-then3 c .args in
-    sym (ap room (short-span (a .places) (a .entries) (a .output) (a .costs) (a .choices) (a .span) (else1-before-then3 c .if1 .left) (sym (either-is (runs-past2-before-then3 c)) ∙ c .before .before .if2 .left) (c .if3 .taken)))
+    sym (ap room (short-span (a .places) (a .entries) (a .output) (a .costs) (a .choices) (a .span) (else1-before-then3 c .if1 .left) (sym (either-is (c .before .before)) ∙ c .before .if2 .left) (c .if3 .taken)))
 
 returns-4 : tie.Need-returns-4
 returns-4 c =
     let a = start-before-else3 c .args in
-    sym (ap room (enough (a .places) (a .entries) (a .output) (a .costs) (a .choices) (a .span) (else1-before-else3 c .if1 .left) (sym (either-is (runs-past2-before-else3 c)) ∙ c .before .before .if2 .left) (c .if3 .left)))
+    sym (ap room (enough (a .places) (a .entries) (a .output) (a .costs) (a .choices) (a .span) (else1-before-else3 c .if1 .left) (sym (either-is (c .before .before)) ∙ c .before .if2 .left) (c .if3 .left)))
 
 pub measure-spec : {M : Type 1} → statement M
 measure-spec =
