@@ -1,5 +1,5 @@
 -- The worked cases that are proved, 01's "Measured roads" and those of 02: for each call on the bytes of a sheet, the answer expected.
-use Prim.Native.Nat.{ℕ, _+_, _*_, _/_, _^_}
+use Prim.Native.Nat.{ℕ, _+_, _-_, _*_, _/_, _^_}
 use mathlib.Core.Bool.{Bool, true, _&&_}
 use mathlib.Core.Path.{_≡_}
 use mathlib.Core.List.{List, [], _∷_, _++_}
@@ -21,6 +21,7 @@ use Rattle.bill.specs.declared.tariff.Tariff.{Tariff}
 use Rattle.bill.specs.declared.Billed.{Billed}
 use Rattle.bill.specs.declared.Billed.the-variants as bill
 use Rattle.lending.specs.Spans.{span-of}
+use Rattle.lending.specs.declared.Span.{Span}
 use Rattle.planner.specs.Answers as planner
 use Rattle.planner.specs.Answers.{entries, cost, planned}
 use Rattle.planner.specs.Lent.{used}
@@ -54,6 +55,8 @@ pub data Case : Type 0 where
   lines : List ℕ → List ℕ → Tariff → List ℕ → Case
   -- the keeping call, with memory that just suffices: it uses the tables, and this is what it leaves in the cost table and in the choice table
   keeps : List ℕ → List ℕ → List ℕ → Case
+  -- the planner, of bytes, with an output, a cost table and a choice table of so many places, on a span
+  spans : List ℕ → ℕ → ℕ → ℕ → Span → Planned → Case
 
 -- the planner's answer where the output has r places and each table s × 2^r entries, all of them in the span
 abbrev pub answer-to : List ℕ → Planned
@@ -76,6 +79,7 @@ Holds (tidies bytes copy) = (tidy-answer bytes (length copy) ≡ Bytes (length c
 Holds (bills bytes written t n answer) = billed bytes written t n ≡ answer
 Holds (lines bytes written t expected) = places (line-count (instance bytes)) (line (instance bytes) (place written) t) ≡ expected
 Holds (keeps bytes costs choices) = (used (answer-to bytes) ≡ true) × (kept-costs (instance bytes) ≡ costs) × (kept-choices (instance bytes) ≡ choices)
+Holds (spans bytes output costs choices span answer) = planned bytes output costs choices span ≡ answer
 
 -- the figure of a set that cannot be placed: 10^15 + 1
 abbrev pub no-way : ℕ
@@ -250,4 +254,20 @@ cases =
     ∷ keeps road-m (0 ∷ 8 ∷ 5 ∷ 15 ∷ 0 ∷ 2 ∷ 2 ∷ no-way ∷ 0 ∷ 4 ∷ 4 ∷ no-way ∷ []) (0 ∷ 0 ∷ 0 ∷ 0 ∷ 9 ∷ 0 ∷ 0 ∷ 1 ∷ 9 ∷ 1 ∷ 2 ∷ 3 ∷ [])
     ∷ keeps (road 0 6) (0 ∷ 8 ∷ 5 ∷ 15 ∷ 0 ∷ 2 ∷ 2 ∷ no-way ∷ 0 ∷ 4 ∷ 4 ∷ no-way ∷ []) (0 ∷ 0 ∷ 0 ∷ 0 ∷ 4 ∷ 0 ∷ 0 ∷ 0 ∷ 8 ∷ 1 ∷ 2 ∷ 1 ∷ [])
     ∷ keeps (road 0 4) (0 ∷ no-way ∷ 5 ∷ no-way ∷ 0 ∷ 2 ∷ 2 ∷ no-way ∷ 0 ∷ 4 ∷ 4 ∷ no-way ∷ []) (0 ∷ 0 ∷ 0 ∷ 0 ∷ 4 ∷ 0 ∷ 0 ∷ 0 ∷ 6 ∷ 0 ∷ 2 ∷ 0 ∷ [])
+    -- 02 (h), on M, which needs 2 places and 12 entries: a span in the middle, one that is longer than needed and ends with both tables, and one that does
+    -- so with the shorter
+    ∷ spans road-m 2 30 30 (span-of 5 12) (plans.Plan 15 18)
+    ∷ spans road-m 2 30 30 (span-of 10 20) (plans.Plan 15 18)
+    ∷ spans road-m 2 24 30 (span-of 12 12) (plans.Plan 15 18)
+    -- a span that runs past the cost table, and past the choice table; first and number whose sum does not fit 64 bits
+    ∷ spans road-m 2 23 30 (span-of 12 12) (plans.Refused (refusal 24) 0)
+    ∷ spans road-m 2 30 23 (span-of 12 12) (plans.Refused (refusal 24) 0)
+    ∷ spans road-m 2 30 30 (span-of (2 ^ 64 - 1) (2 ^ 64 - 1)) (plans.Refused (refusal 24) 0)
+    ∷ spans road-m 2 30 30 (span-of 1 (2 ^ 64 - 1)) (plans.Refused (refusal 24) 0)
+    -- no entries at the very end, and one past it; an entry too few; 24 with 11, and 10 with both
+    ∷ spans road-m 2 30 30 (span-of 30 0) (plans.Refused (refusal 11) 0)
+    ∷ spans road-m 2 30 30 (span-of 31 0) (plans.Refused (refusal 24) 0)
+    ∷ spans road-m 2 30 30 (span-of 5 11) (plans.Refused (refusal 11) 0)
+    ∷ spans road-m 2 30 30 (span-of 25 11) (plans.Refused (refusal 24) 0)
+    ∷ spans road-m 1 30 30 (span-of 25 11) (plans.Refused (refusal 10) 0)
     ∷ []
