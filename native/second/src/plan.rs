@@ -27,7 +27,8 @@ pub struct Answer {
 }
 
 impl Answer {
-    fn refused(refusal: u64, count: u64) -> Answer {
+    /// A refusal, with the count of splits that comes with it.
+    pub fn refused(refusal: u64, count: u64) -> Answer {
         Answer {
             refusal,
             group: group(refusal),
