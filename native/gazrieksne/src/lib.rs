@@ -6,8 +6,10 @@
 pub mod calls;
 mod raw;
 mod refusal;
+mod span;
 
 pub use refusal::{Group, Refusal};
+pub use span::Span;
 
 /// An output of so many bytes suffices for the tidy copy of any sheet.
 pub const LONGEST_COPY: usize = 11_438;
@@ -177,8 +179,7 @@ pub fn plan(
 ) -> Result<Planned, Refusal> {
     let mut answer = [0; 3];
     let number = calls::plan(sheet, output, costs, choices, &mut answer);
-    let [group, cost, count] = answer;
-    Refusal::of(number, group, count).map_or(Ok(Planned { cost, count }), Err)
+    planned(number, answer)
 }
 
 /// Finds a cheapest plan as `plan` does, and leaves in the tables what `edit` needs: after a plan
@@ -192,8 +193,7 @@ pub fn keep(
 ) -> Result<Planned, Refusal> {
     let mut answer = [0; 3];
     let number = calls::keep(sheet, output, costs, choices, &mut answer);
-    let [group, cost, count] = answer;
-    Refusal::of(number, group, count).map_or(Ok(Planned { cost, count }), Err)
+    planned(number, answer)
 }
 
 /// Plans anew after one cabinet was changed: its capacity, its price, or the capacities and prices of
@@ -216,7 +216,58 @@ pub fn edit(
 ) -> Result<Planned, Refusal> {
     let mut answer = [0; 3];
     let number = calls::edit(sheet, cabinet, output, costs, choices, &mut answer);
-    let [group, cost, count] = answer;
+    planned(number, answer)
+}
+
+/// Plans as `plan` does, with a span of the tables: its entries are the tables that the call works
+/// in, and no entry outside it ever changes. So several roads can be planned in one pair of tables,
+/// each in a span of its own, in any order, and each as if it had tables of its own.
+///
+/// The span must end within both tables, else the refusal is 24, and it must have `Counts::entries`
+/// entries or more, else the refusal is 11; so it is with `keep_span` and `edit_span`.
+pub fn plan_span(
+    sheet: &[u8],
+    output: &mut [u16],
+    costs: &mut [u64],
+    choices: &mut [u16],
+    span: Span,
+) -> Result<Planned, Refusal> {
+    let mut answer = [0; 3];
+    let number = calls::plan_span(sheet, output, costs, choices, span, &mut answer);
+    planned(number, answer)
+}
+
+/// Plans and leaves what `edit_span` needs, as `keep` does, with a span of the tables.
+pub fn keep_span(
+    sheet: &[u8],
+    output: &mut [u16],
+    costs: &mut [u64],
+    choices: &mut [u16],
+    span: Span,
+) -> Result<Planned, Refusal> {
+    let mut answer = [0; 3];
+    let number = calls::keep_span(sheet, output, costs, choices, span, &mut answer);
+    planned(number, answer)
+}
+
+/// Plans anew after one cabinet was changed, as `edit` does, with a span of the tables: the one that
+/// `keep_span` or the last `edit_span` for this road was given. What is done in between in spans that
+/// share no entry with it does not matter.
+pub fn edit_span(
+    sheet: &[u8],
+    cabinet: usize,
+    output: &mut [u16],
+    costs: &mut [u64],
+    choices: &mut [u16],
+    span: Span,
+) -> Result<Planned, Refusal> {
+    let mut answer = [0; 3];
+    let number = calls::edit_span(sheet, cabinet, output, costs, choices, span, &mut answer);
+    planned(number, answer)
+}
+
+/// What a call that plans answers, by its refusal and its group, cost and count.
+fn planned(number: u64, [group, cost, count]: [u64; 3]) -> Result<Planned, Refusal> {
     Refusal::of(number, group, count).map_or(Ok(Planned { cost, count }), Err)
 }
 
