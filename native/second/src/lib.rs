@@ -30,6 +30,7 @@ pub mod read;
 pub mod refusal;
 pub mod sheet;
 pub mod span;
+pub mod spanned;
 pub mod splits;
 pub mod tidy;
 pub mod tied;

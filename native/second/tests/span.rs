@@ -7,7 +7,7 @@ use second::random::road::road;
 use second::random::span::span;
 use second::random::{Lent, Random, Size};
 use second::span::{accepted, lent_span};
-use second::{Span, Tables, edit_span, keep, keep_span, plan, plan_span};
+use second::{Span, Tables, edit_span, keep, keep_span, plan, plan_span, spanned};
 
 const MOST: usize = usize::MAX;
 
@@ -135,6 +135,20 @@ fn the_whole_of_the_shorter_table() {
             let right = plan(&m(), 2, costs, choices);
             assert_eq!(plan_span(&m(), lent, Span::whole(lent)).0, right);
         }
+    }
+}
+
+/// The spans written down, in all three calls.
+#[test]
+fn written_down() {
+    for case in spanned::all() {
+        let (sheet, lent, span) = (&case.sheet, case.lent, case.span);
+        let planned = plan_span(sheet, lent, span).0.refusal;
+        assert_eq!(planned, case.refusal, "{}", case.name);
+        let kept = keep_span(sheet, lent, span).0.refusal;
+        assert_eq!(kept, case.refusal, "{}", case.name);
+        let edited = edit_span(sheet, case.cabinet, lent, span).0.refusal;
+        assert_eq!(edited, case.edit_refusal, "{}", case.name);
     }
 }
 

@@ -28,7 +28,7 @@ enum Manner {
 }
 
 /// The manners, each as often as it stands here.
-const MANNERS: [Manner; 12] = [
+const MANNERS: [Manner; 13] = [
     Manner::Fits,
     Manner::Fits,
     Manner::Fits,
@@ -38,6 +38,7 @@ const MANNERS: [Manner; 12] = [
     Manner::Past,
     Manner::Past,
     Manner::One,
+    Manner::Most,
     Manner::Most,
     Manner::Wraps,
     Manner::Wide,

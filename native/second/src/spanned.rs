@@ -1,0 +1,170 @@
+//! Spans that are written down one by one, with what is given for them.
+
+use crate::build::tight;
+use crate::limits::NO_PARENT;
+use crate::measured::{m, m_barred, m_records};
+use crate::random::Lent;
+use crate::sheet::{Cabinet, Sheet};
+use crate::span::Span;
+
+/// A sheet, what is lent, a span, the number of a cabinet to edit, and the refusals of a planning or
+/// keeping call and of an edit, 0 for none.
+pub struct Spanned {
+    pub name: &'static str,
+    pub sheet: Vec<u8>,
+    pub lent: Lent,
+    pub span: Span,
+    pub cabinet: usize,
+    pub refusal: u64,
+    pub edit_refusal: u64,
+}
+
+/// The lengths of output, cost table and choice table, and the first entry and number of entries.
+type Numbers = ([usize; 3], [usize; 2]);
+
+const MOST: usize = usize::MAX;
+
+/// Spans of M, which needs 2 places and 12 entries, with the refusal of all three calls.
+const OF_M: [(&str, Numbers, u64); 37] = [
+    ("just enough, and nothing else", ([2, 12, 12], [0, 12]), 0),
+    ("entries on all sides", ([2, 20, 21], [3, 14]), 0),
+    ("at the end of the costs", ([2, 15, 20], [3, 12]), 0),
+    ("at the end of the choices", ([3, 20, 15], [3, 12]), 0),
+    ("longer, at the end of both", ([2, 20, 20], [1, 19]), 0),
+    ("all of the costs", ([2, 13, 30], [0, 13]), 0),
+    ("all of the choices", ([2, 30, 13], [0, 13]), 0),
+    ("all of the costs, too short", ([2, 11, 30], [0, 11]), 11),
+    ("all of the choices, too short", ([2, 30, 11], [0, 11]), 11),
+    ("one entry short", ([2, 20, 20], [3, 11]), 11),
+    ("one short, from the start", ([2, 20, 20], [0, 11]), 11),
+    ("no entry", ([2, 20, 20], [0, 0]), 11),
+    ("no entry at the end", ([2, 20, 20], [20, 0]), 11),
+    ("none at the end of the costs", ([2, 20, 25], [20, 0]), 11),
+    ("none at the end of the choices", ([2, 25, 20], [20, 0]), 11),
+    ("no entry past the end", ([2, 20, 20], [21, 0]), 24),
+    ("no entry of no tables", ([2, 0, 0], [0, 0]), 11),
+    ("one past both", ([2, 14, 14], [3, 12]), 24),
+    ("one past the costs", ([2, 14, 20], [3, 12]), 24),
+    ("one past the choices", ([2, 20, 14], [3, 12]), 24),
+    ("longer than both", ([2, 20, 20], [0, 21]), 24),
+    ("without costs", ([2, 0, 20], [3, 12]), 24),
+    ("without choices", ([2, 20, 0], [3, 12]), 24),
+    ("past both and too short", ([2, 20, 20], [10, 11]), 24),
+    ("past both, a place short", ([1, 20, 20], [9, 12]), 10),
+    ("too short, a place short", ([1, 20, 20], [9, 11]), 10),
+    ("the largest first entry", ([2, 20, 20], [MOST, 0]), 24),
+    ("the same with an entry", ([2, 20, 20], [MOST, 1]), 24),
+    ("the same with enough", ([2, 20, 20], [MOST, 13]), 24),
+    ("the largest number", ([2, 20, 20], [0, MOST]), 24),
+    ("the same behind an entry", ([2, 20, 20], [1, MOST]), 24),
+    ("the largest of both", ([2, 20, 20], [MOST, MOST]), 24),
+    ("a sum of 2^64, far", ([2, 20, 20], [MOST - 11, 12]), 24),
+    ("a sum of 2^64, long", ([2, 20, 20], [12, MOST - 11]), 24),
+    (
+        "a sum of 2^64, halves",
+        ([2, 20, 20], [1 << 63, 1 << 63]),
+        24,
+    ),
+    (
+        "enough in 32 bits",
+        ([2, 20, 20], [1 << 32, (1 << 32) + 12]),
+        24,
+    ),
+    ("past both, without places", ([0, 20, 20], [MOST, MOST]), 10),
+];
+
+/// A name, a sheet, the numbers of a call, that of the cabinet, and both refusals.
+type Written = (&'static str, Vec<u8>, Numbers, usize, [u64; 2]);
+
+/// Spans of other roads.
+fn others() -> Vec<Written> {
+    let fits = ([2, 20, 21], [4, 12]);
+    let past = ([2, 20, 21], [9, 12]);
+    let cut = m()[..67].to_vec();
+    let unknown = tight(&m_barred(&[[0, 3]]));
+    vec![
+        (
+            "one entry suffices",
+            smallest(),
+            ([0, 3, 4], [1, 1]),
+            0,
+            [0, 0],
+        ),
+        (
+            "one entry, the last",
+            smallest(),
+            ([0, 3, 3], [2, 1]),
+            0,
+            [0, 0],
+        ),
+        (
+            "one entry, past",
+            smallest(),
+            ([0, 3, 3], [3, 1]),
+            0,
+            [24, 24],
+        ),
+        (
+            "no entry for one",
+            smallest(),
+            ([0, 3, 3], [3, 0]),
+            0,
+            [11, 11],
+        ),
+        ("no such cabinet", m(), fits, 3, [0, 14]),
+        ("no such cabinet, past", m(), past, 3, [24, 24]),
+        ("the same with the largest", m(), past, MOST, [24, 24]),
+        (
+            "no such cabinet, short",
+            m(),
+            ([2, 20, 20], [9, 11]),
+            3,
+            [11, 11],
+        ),
+        ("no plan", shut(), fits, 2, [12, 12]),
+        ("no plan, past", shut(), past, 2, [24, 24]),
+        ("no plan, past, no cabinet", shut(), past, 3, [24, 24]),
+        ("cut off, past", cut.clone(), past, 1, [3, 3]),
+        ("cut off", cut, fits, 1, [3, 3]),
+        ("a pair of no cabinet, past", unknown, past, 1, [19, 19]),
+    ]
+}
+
+/// A road of no service and one cabinet.
+fn smallest() -> Vec<u8> {
+    tight(&Sheet {
+        cabinets: vec![Cabinet::from_words([NO_PARENT, 3, 7, 0, 0, 0, 0])],
+        ..Sheet::default()
+    })
+}
+
+/// M without room.
+fn shut() -> Vec<u8> {
+    let mut sheet = m_records();
+    sheet.cabinets.iter_mut().for_each(|c| c.capacity = 0);
+    tight(&sheet)
+}
+
+/// All that are written down.
+pub fn all() -> Vec<Spanned> {
+    let of_m = OF_M.map(|(name, numbers, refusal)| (name, m(), numbers, 1, [refusal; 2]));
+    let all = of_m.into_iter().chain(others());
+    let spanned = |(name, sheet, numbers, cabinet, refusals): Written| {
+        let ([output, costs, choices], [first, number]) = numbers;
+        let [refusal, edit_refusal] = refusals;
+        Spanned {
+            name,
+            sheet,
+            lent: Lent {
+                output,
+                costs,
+                choices,
+            },
+            span: Span { first, number },
+            cabinet,
+            refusal,
+            edit_refusal,
+        }
+    };
+    all.map(spanned).collect()
+}
