@@ -6,7 +6,7 @@ use crate::memory::{Asked, Memory};
 use crate::{Subject, Tally};
 use second::random::damage::damage;
 use second::random::{Lent, Random};
-use second::{Answer, Sheet, Tables, group};
+use second::{Answer, Sheet, Tables};
 
 /// The edit that comes next in a list, of which forms are refused before it.
 pub struct Between<'a> {
@@ -45,11 +45,7 @@ impl Between<'_> {
             return Ok(());
         }
         let given = memory.call(subject, Asked::Edit(number), &sheet, lent, random);
-        let right = Answer {
-            refusal,
-            group: group(refusal),
-            ..Answer::default()
-        };
+        let right = Answer::refused(refusal, 0);
         let untouched = Tables::default();
         given
             .and_then(|given| memory.expect(&given, &sheet, &right, &untouched))
