@@ -18,7 +18,7 @@ use second::{Answer, Sheet, Span, Tables};
 use std::mem::swap;
 
 /// A list of calls for this road and a smaller one of other numbers, by turns.
-pub fn joint(
+pub fn compare_joint(
     subject: &dyn Subject,
     records: &Sheet,
     random: &mut Random,

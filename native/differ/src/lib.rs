@@ -25,6 +25,7 @@ mod writer;
 
 pub use event::Event;
 pub use figures::compare_bounds;
+pub use joint::compare_joint;
 pub use memory::Call;
 pub use spans::compare_spans;
 pub use spot::Spot;
@@ -40,7 +41,7 @@ use second::random::{Case, Random};
 use second::{Sheet, Tables};
 
 /// Once in so many small roads there is a list of calls on its span and on another road's.
-const JOINT: usize = 4;
+const JOINT: usize = 2;
 
 /// Makes all calls of a case, and some of those that take no sheet. The error tells the first
 /// difference.
@@ -123,7 +124,7 @@ fn spans(
     spans::spans(subject, road, random, tally)?;
     match small {
         Some((records, _)) if random.once_in(JOINT) => {
-            joint::joint(subject, records, random, tally)
+            compare_joint(subject, records, random, tally)
         }
         _ => Ok(()),
     }

@@ -157,15 +157,15 @@ impl Attempt {
         let Some((answer, tables)) = self.right(road, &mut memory, random) else {
             return Ok(());
         };
-        let mut alike = memory.clone();
+        let whole = self.span == Span::whole(self.lent);
+        let alike = whole.then(|| memory.clone());
         let mut make = |memory: &mut Memory, asked: Asked| {
             let given = memory.call(subject, asked, road.sheet, self.lent, random)?;
             memory.expect(&given, road.sheet, &answer, &tables)
         };
         let asked = self.asked.on(self.span);
         make(&mut memory, asked)?;
-        let whole = self.span == Span::whole(self.lent);
-        if whole {
+        if let Some(mut alike) = alike {
             make(&mut alike, self.asked).map_err(|what| format!("without the span: {what}"))?;
         }
         tally.answer(asked.name(), answer.refusal);

@@ -13,6 +13,8 @@ pub enum Spot {
     Longer,
     /// There are entries before it.
     Behind,
+    /// There are 2^16 entries before it, or more.
+    Far,
     /// It ends where the shorter table does, and starts behind the table's first entry.
     AtEnd,
     /// It is within both tables, of which the cost table is the shorter.
@@ -56,10 +58,11 @@ pub enum Spot {
 }
 
 impl Spot {
-    pub const ALL: [Spot; 23] = [
+    pub const ALL: [Spot; 24] = [
         Spot::Exact,
         Spot::Longer,
         Spot::Behind,
+        Spot::Far,
         Spot::AtEnd,
         Spot::CostsShorter,
         Spot::ChoicesShorter,
@@ -134,6 +137,7 @@ impl Made<'_> {
             (Spot::Exact, number == entries),
             (Spot::Longer, number > entries),
             (Spot::Behind, first > 0),
+            (Spot::Far, first >= 1 << 16),
             (Spot::AtEnd, first > 0 && first + number == self.shorter()),
             (Spot::CostsShorter, costs < choices),
             (Spot::ChoicesShorter, choices < costs),

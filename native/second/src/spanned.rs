@@ -25,7 +25,7 @@ type Numbers = ([usize; 3], [usize; 2]);
 const MOST: usize = usize::MAX;
 
 /// Spans of M, which needs 2 places and 12 entries, with the refusal of all three calls.
-const OF_M: [(&str, Numbers, u64); 37] = [
+const OF_M: [(&str, Numbers, u64); 40] = [
     ("just enough, and nothing else", ([2, 12, 12], [0, 12]), 0),
     ("entries on all sides", ([2, 20, 21], [3, 14]), 0),
     ("at the end of the costs", ([2, 15, 20], [3, 12]), 0),
@@ -33,6 +33,16 @@ const OF_M: [(&str, Numbers, u64); 37] = [
     ("longer, at the end of both", ([2, 20, 20], [1, 19]), 0),
     ("all of the costs", ([2, 13, 30], [0, 13]), 0),
     ("all of the choices", ([2, 30, 13], [0, 13]), 0),
+    (
+        "behind 2^16 entries",
+        ([2, 65_560, 65_561], [65_539, 12]),
+        0,
+    ),
+    (
+        "2^16 entries and more",
+        ([2, 65_560, 65_561], [3, 65_548]),
+        0,
+    ),
     ("all of the costs, too short", ([2, 11, 30], [0, 11]), 11),
     ("all of the choices, too short", ([2, 30, 11], [0, 11]), 11),
     ("one entry short", ([2, 20, 20], [3, 11]), 11),
@@ -65,11 +75,8 @@ const OF_M: [(&str, Numbers, u64); 37] = [
         ([2, 20, 20], [1 << 63, 1 << 63]),
         24,
     ),
-    (
-        "enough in 32 bits",
-        ([2, 20, 20], [1 << 32, (1 << 32) + 12]),
-        24,
-    ),
+    ("near in 32 bits", ([2, 20, 20], [1 << 32, 12]), 24),
+    ("short in 32 bits", ([2, 20, 20], [0, (1 << 32) + 12]), 24),
     ("past both, without places", ([0, 20, 20], [MOST, MOST]), 10),
 ];
 
@@ -111,6 +118,21 @@ fn others() -> Vec<Written> {
             0,
             [11, 11],
         ),
+        ("a chain", chain(), fits, 0, [0, 0]),
+        (
+            "a chain, further on",
+            chain(),
+            ([2, 30, 31], [15, 13]),
+            0,
+            [0, 0],
+        ),
+        (
+            "a chain, at the end",
+            chain(),
+            ([3, 30, 30], [18, 12]),
+            0,
+            [0, 0],
+        ),
         ("no such cabinet", m(), fits, 3, [0, 14]),
         ("no such cabinet, past", m(), past, 3, [24, 24]),
         ("the same with the largest", m(), past, MOST, [24, 24]),
@@ -134,6 +156,16 @@ fn others() -> Vec<Written> {
 fn smallest() -> Vec<u8> {
     tight(&Sheet {
         cabinets: vec![Cabinet::from_words([NO_PARENT, 3, 7, 0, 0, 0, 0])],
+        ..Sheet::default()
+    })
+}
+
+/// Two services that only the last of three cabinets in a row has room for.
+fn chain() -> Vec<u8> {
+    let cabinet = |parent, capacity| Cabinet::from_words([parent, capacity, 5, 0, 0, 0, 0]);
+    tight(&Sheet {
+        services: vec![2, 2],
+        cabinets: vec![cabinet(NO_PARENT, 0), cabinet(0, 1), cabinet(1, 4)],
         ..Sheet::default()
     })
 }

@@ -49,6 +49,7 @@ sentences! {
     ChoicesFromStart "rows of the choice table lie from its start"
     ReadFromStart "kept rows are read from the tables' start"
     ReadChoicesFromStart "kept rows of the choice table are read from its start"
+    From16 "rows lie from the first entry, which is taken in 16 bits there"
     WholeRows "rows start at a multiple of their length"
     FromEnd "rows lie at the end of the span"
     // What else is written.

@@ -184,6 +184,7 @@ impl Faulty {
             Some(Slip::FromStart) => [0, 0],
             Some(Slip::CostsFromStart) => [0, first],
             Some(Slip::ChoicesFromStart) => [first, 0],
+            Some(Slip::From16) => [first % (1 << 16); 2],
             Some(Slip::WholeRows) => [first / row * row; 2],
             Some(Slip::FromEnd) => [first.wrapping_add(number - entries); 2],
             _ => [first, first],

@@ -50,6 +50,7 @@ pub fn span(random: &mut Random, places: usize, entries: usize) -> (Lent, Span) 
     let (mut lent, fits) = fitting(random, places, entries);
     let short = lent.costs.min(lent.choices);
     let span = match random.pick(&MANNERS) {
+        Manner::Fits if random.once_in(8) => far(&mut lent, fits),
         Manner::Fits => fits,
         Manner::Whole => Span::whole(lent),
         Manner::Short => Span {
@@ -95,6 +96,16 @@ fn fitting(random: &mut Random, places: usize, entries: usize) -> (Lent, Span) {
         choices: first + number + some(&[0, 1]),
     };
     (lent, Span { first, number })
+}
+
+/// The same span behind 2^16 entries more.
+fn far(lent: &mut Lent, fits: Span) -> Span {
+    lent.costs += 1 << 16;
+    lent.choices += 1 << 16;
+    Span {
+        first: fits.first + (1 << 16),
+        ..fits
+    }
 }
 
 /// Fewer entries than are needed: often just one.
