@@ -7,8 +7,8 @@ use second::feature::Feature;
 use second::form::Form;
 
 /// So many random cases must have among them plans of which others cost as much, plans and roads
-/// that framing decides, edits of every kind, calls on spans of every kind, alone and on two spans by
-/// turns, every kind of answer of the writer, and sheets of every form.
+/// that framing decides, edits of every kind, calls on spans of every kind, alone and on two spans
+/// by turns, every kind of answer of the writer, and sheets of every form.
 const ENOUGH_CASES: usize = 1000;
 /// So many must have among them bills with every feature that chance gives; few roads have loads of
 /// about whole blocks.

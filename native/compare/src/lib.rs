@@ -16,9 +16,9 @@ use second::random::{Case, Random, Size, case};
 use second::{barred, billed, copies, framed, tied};
 
 /// Compares the bound for all numbers around the limits, the spans written down, then all cases:
-/// those written down for barred pairs, for ties, for framing, for bills and for tidy copies, random
-/// ones, and large roads. The error is the first difference in full, or what the cases written down,
-/// or enough random ones, should have shown and did not.
+/// those written down for barred pairs, for ties, for framing, for bills and for tidy copies,
+/// random ones, and large roads. The error is the first difference in full, or what the cases
+/// written down, or enough random ones, should have shown and did not.
 pub fn run(options: &Options) -> Result<Tally, String> {
     let mut tally = Tally::default();
     let mut random = Random::new(options.seed);

@@ -1,19 +1,17 @@
-//! Compares lists of calls on two spans of the same tables: each road must get and leave what its own
-//! calls alone do, on tables of its own of just the span's length.
+//! Compares lists of calls on two spans of the same tables: each road must get and leave what its
+//! own calls alone do, on tables of its own of just the span's length.
 
-use crate::editor::some_sheet;
 use crate::event::Event;
 use crate::guarded::Guarded;
 use crate::keeper::Right;
 use crate::memory::{Asked, Call, Memory};
+use crate::order::Order;
 use crate::turn::Turn;
 use crate::{Subject, Tally};
 use second::hex::dump;
-use second::random::damage::damage;
-use second::random::edits::{Edits, some_cabinet};
+use second::random::edits::Edits;
 use second::random::joint::{Spans, other_road, side_by_side};
 use second::random::{Lent, Random};
-use second::span::accepted;
 use second::{Answer, Sheet, Span, Tables};
 use std::mem::swap;
 
@@ -76,6 +74,12 @@ impl Tenant {
         }
     }
 
+    /// A call for the road as it is, on its span.
+    fn order(&self, asked: Asked, random: &mut Random) -> Order {
+        let places = self.output.inside().len();
+        Order::new(asked, self.edits.sheet(), places, self.span, random)
+    }
+
     /// The output and the span hold what the output and the tables of its own hold.
     fn same(&self, shared: &Memory) -> Result<(), String> {
         let Span { first, number } = self.span;
@@ -87,14 +91,6 @@ impl Tenant {
             false => Err("the span or the output is not as with the road alone".to_string()),
         }
     }
-}
-
-/// One call for a road: with the output's first places, on its span or another one.
-struct Order<'a> {
-    asked: Asked,
-    sheet: &'a [u8],
-    places: usize,
-    span: Span,
 }
 
 /// Two roads in the same tables.
@@ -156,15 +152,10 @@ impl Office<'_> {
                 Asked::Edit(cabinet)
             }
         };
-        let sheet = some_sheet(random, road.edits.sheet());
-        let order = Order {
-            asked,
-            sheet: &sheet,
-            places: road.output.inside().len(),
-            span: road.span,
-        };
-        let (answer, tables) = (road.right.answer.clone(), road.right.left(asked.call().0));
-        self.order(which, &order, (&answer, &tables), random)?;
+        let order = road.order(asked, random);
+        let tables = road.right.left(asked.call().0);
+        let answer = road.right.answer.clone();
+        self.call(which, &order, (&answer, &tables), random)?;
         self.worked(which, asked.call().0, tally);
         tally.answer(asked.on(order.span).name(), answer.refusal);
         Ok(())
@@ -201,37 +192,17 @@ impl Office<'_> {
         random: &mut Random,
         tally: &mut Tally,
     ) -> Result<(), String> {
+        let lent = self.shared.lent();
         let road = &self.roads[which];
         let records = road.edits.sheet();
-        let cabinet = some_cabinet(random, records);
-        let mut sheet = some_sheet(random, records);
-        let mut asked = random.pick(&[Asked::Plan, Asked::Keep, Asked::Edit(cabinet)]);
-        let mut places = road.output.inside().len();
-        let mut span = road.span;
-        match random.below(6) {
-            0 => sheet = damage(random, records).1,
-            1 => places = random.below(records.services.len()),
-            2 => span.number = random.below(entries(records)),
-            3 => span.first += self.shared.costs.inside().len(),
-            4 => span.number = random.pick(&[usize::MAX, span.first.wrapping_neg()]),
-            _ => asked = Asked::Edit(records.cabinets.len() + random.below(3)),
-        }
-        let lent = Lent {
-            output: places,
-            ..self.shared.lent()
-        };
-        let Err(refusal) = accepted(&sheet, asked.call().1, lent, span) else {
+        let order = road.order(Asked::Plan, random);
+        let order = order.harmed(records, lent.costs, random);
+        let Some(refusal) = order.refusal(lent) else {
             return Ok(());
         };
-        let order = Order {
-            asked,
-            sheet: &sheet,
-            places,
-            span,
-        };
         let right = Answer::refused(refusal, 0);
-        self.order(which, &order, (&right, &Tables::default()), random)?;
-        tally.answer(asked.on(span).name(), refusal);
+        self.call(which, &order, (&right, &Tables::default()), random)?;
+        tally.answer(order.asked.on(order.span).name(), refusal);
         if refusal == 24 {
             tally.event(Event::Joint(Turn::Past));
         }
@@ -241,30 +212,23 @@ impl Office<'_> {
         Ok(())
     }
 
-    /// One call on the shared tables, and the same with the road alone, unless its own tables have no
-    /// such span; then nothing differs between both.
-    fn order(
+    /// One call on the shared tables, and the same with the road alone, unless it is one on a span
+    /// past the tables.
+    fn call(
         &mut self,
         which: usize,
         order: &Order,
         (answer, tables): (&Answer, &Tables),
         random: &mut Random,
     ) -> Result<(), String> {
-        let Order {
-            asked,
-            sheet,
-            places,
-            span,
-        } = *order;
+        let Order { asked, span, .. } = *order;
+        let sheet = &order.sheet;
         let road = &mut self.roads[which];
         let mut make = |memory: &mut Memory, asked: Asked, lent: Lent| {
             let given = memory.call(self.subject, asked, sheet, lent, random)?;
             memory.expect(&given, sheet, answer, tables)
         };
-        let lent = Lent {
-            output: places,
-            ..self.shared.lent()
-        };
+        let lent = order.lent(self.shared.lent());
         swap(&mut self.shared.output, &mut road.output);
         let shared = make(&mut self.shared, asked.on(span), lent);
         swap(&mut self.shared.output, &mut road.output);
@@ -275,9 +239,9 @@ impl Office<'_> {
         shared.map_err(told)?;
         if !span.is_past(lent) {
             let own = Lent {
-                output: places,
                 costs: span.number,
                 choices: span.number,
+                ..lent
             };
             let alone = make(&mut road.alone, asked, own);
             alone.map_err(|what| told(format!("alone: {what}")))?;

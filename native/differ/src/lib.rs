@@ -13,6 +13,7 @@ mod guarded;
 mod joint;
 mod keeper;
 mod memory;
+mod order;
 mod planner;
 mod reader;
 mod refused;

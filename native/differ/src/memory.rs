@@ -146,12 +146,28 @@ impl Memory {
     ) -> Result<Given, String> {
         let sheet = Guarded::holding(random, sheet);
         let mut answer = Guarded::dirty(random, 3);
-        let bytes = sheet.inside();
+        let refusal = self.make(subject, asked, sheet.inside(), lent, answer.array());
+        sheet.expect_same("sheet")?;
+        Ok(Given {
+            refusal,
+            answer,
+            first: asked.first(),
+        })
+    }
+
+    /// Makes the call itself.
+    fn make(
+        &mut self,
+        subject: &dyn Subject,
+        asked: Asked,
+        bytes: &[u8],
+        lent: Lent,
+        values: &mut [u64; 3],
+    ) -> u64 {
         let output = &mut self.output.inside_mut()[..lent.output];
         let costs = &mut self.costs.inside_mut()[..lent.costs];
         let choices = &mut self.choices.inside_mut()[..lent.choices];
-        let values = answer.array();
-        let refusal = match asked {
+        match asked {
             Asked::Plan => subject.plan(bytes, output, costs, choices, values),
             Asked::Keep => subject.keep(bytes, output, costs, choices, values),
             Asked::Edit(c) => subject.edit(bytes, c, output, costs, choices, values),
@@ -179,13 +195,7 @@ impl Memory {
                 };
                 subject.edit_span(bytes, c, output, tables, values)
             }
-        };
-        sheet.expect_same("sheet")?;
-        Ok(Given {
-            refusal,
-            answer,
-            first: asked.first(),
-        })
+        }
     }
 
     /// The call gave this answer, wrote its plan and these tables where its rows start, and nothing

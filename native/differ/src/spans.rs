@@ -173,8 +173,8 @@ impl Attempt {
         Ok(())
     }
 
-    /// The right answer, and what the span's first entries hold then. Nothing where it is left open.
-    /// Before an edit the span gets what the edit needs, or once in four times what it does not.
+    /// The right answer, and what the span's first entries hold then; nothing where it is left open.
+    /// Before an edit the span gets what the edit needs, but once in four times stays dirty.
     fn right(
         &self,
         road: &Road,

@@ -1,6 +1,6 @@
 //! Counts of cases by kind, of calls by answer, of plans that were not the only cheapest, of what
-//! framing decided, of the features of bills, of what came up among edits and calls on spans, and of
-//! the forms of sheets that were copied.
+//! framing decided, of the features of bills, of what came up among edits and calls on spans, and
+//! of the forms of sheets that were copied.
 
 use crate::Event;
 use second::feature::Feature;

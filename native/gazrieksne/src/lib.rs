@@ -250,9 +250,9 @@ pub fn keep_span(
     planned(number, answer)
 }
 
-/// Plans anew after one cabinet was changed, as `edit` does, with a span of the tables: the one that
-/// `keep_span` or the last `edit_span` for this road was given. What is done in between in spans that
-/// share no entry with it does not matter.
+/// Plans anew after one cabinet was changed, as `edit` does, with a span of the tables: the one
+/// that `keep_span` or the last `edit_span` for this road was given. What is done in between in
+/// spans that share no entry with it does not matter.
 pub fn edit_span(
     sheet: &[u8],
     cabinet: usize,

@@ -50,8 +50,8 @@ pub fn lent_span(sheet: &Sheet, lent: Lent, span: Span) -> u64 {
     }
 }
 
-/// The records of a sheet for which the road itself decides, or the first refusal: of the reader, of
-/// what is lent, or of the number of the cabinet edited, if one is.
+/// The records of a sheet for which the road itself decides, or the first refusal: of the reader,
+/// of what is lent, or of the number of the cabinet edited, if one is.
 pub fn accepted(
     bytes: &[u8],
     cabinet: Option<usize>,

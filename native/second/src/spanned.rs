@@ -7,8 +7,8 @@ use crate::random::Lent;
 use crate::sheet::{Cabinet, Sheet};
 use crate::span::Span;
 
-/// A sheet, what is lent, a span, the number of a cabinet to edit, and the refusals of a planning or
-/// keeping call and of an edit, 0 for none.
+/// A sheet, what is lent, a span, the number of a cabinet to edit, and the refusals of a planning
+/// or keeping call and of an edit, 0 for none.
 pub struct Spanned {
     pub name: &'static str,
     pub sheet: Vec<u8>,
@@ -80,77 +80,52 @@ const OF_M: [(&str, Numbers, u64); 40] = [
     ("past both, without places", ([0, 20, 20], [MOST, MOST]), 10),
 ];
 
-/// A name, a sheet, the numbers of a call, that of the cabinet, and both refusals.
-type Written = (&'static str, Vec<u8>, Numbers, usize, [u64; 2]);
+/// Spans of another road, with the number of the cabinet, the refusal of the first two calls, and
+/// that of an edit.
+type Rows = &'static [(&'static str, Numbers, usize, [u64; 2])];
 
-/// Spans of other roads.
-fn others() -> Vec<Written> {
-    let fits = ([2, 20, 21], [4, 12]);
-    let past = ([2, 20, 21], [9, 12]);
-    let cut = m()[..67].to_vec();
-    let unknown = tight(&m_barred(&[[0, 3]]));
-    vec![
-        (
-            "one entry suffices",
-            smallest(),
-            ([0, 3, 4], [1, 1]),
-            0,
-            [0, 0],
-        ),
-        (
-            "one entry, the last",
-            smallest(),
-            ([0, 3, 3], [2, 1]),
-            0,
-            [0, 0],
-        ),
-        (
-            "one entry, past",
-            smallest(),
-            ([0, 3, 3], [3, 1]),
-            0,
-            [24, 24],
-        ),
-        (
-            "no entry for one",
-            smallest(),
-            ([0, 3, 3], [3, 0]),
-            0,
-            [11, 11],
-        ),
-        ("a chain", chain(), fits, 0, [0, 0]),
-        (
-            "a chain, further on",
-            chain(),
-            ([2, 30, 31], [15, 13]),
-            0,
-            [0, 0],
-        ),
-        (
-            "a chain, at the end",
-            chain(),
-            ([3, 30, 30], [18, 12]),
-            0,
-            [0, 0],
-        ),
-        ("no such cabinet", m(), fits, 3, [0, 14]),
-        ("no such cabinet, past", m(), past, 3, [24, 24]),
-        ("the same with the largest", m(), past, MOST, [24, 24]),
-        (
-            "no such cabinet, short",
-            m(),
-            ([2, 20, 20], [9, 11]),
-            3,
-            [11, 11],
-        ),
-        ("no plan", shut(), fits, 2, [12, 12]),
-        ("no plan, past", shut(), past, 2, [24, 24]),
-        ("no plan, past, no cabinet", shut(), past, 3, [24, 24]),
-        ("cut off, past", cut.clone(), past, 1, [3, 3]),
-        ("cut off", cut, fits, 1, [3, 3]),
-        ("a pair of no cabinet, past", unknown, past, 1, [19, 19]),
-    ]
-}
+/// A span that suffices for 2 services and 3 cabinets, and one that ends past a table.
+const FITS: Numbers = ([2, 20, 21], [4, 12]);
+const PAST: Numbers = ([2, 20, 21], [9, 12]);
+
+/// Of the smallest road.
+const OF_SMALLEST: Rows = &[
+    ("one entry suffices", ([0, 3, 4], [1, 1]), 0, [0, 0]),
+    ("one entry, the last", ([0, 3, 3], [2, 1]), 0, [0, 0]),
+    ("one entry, past", ([0, 3, 3], [3, 1]), 0, [24, 24]),
+    ("no entry for one", ([0, 3, 3], [3, 0]), 0, [11, 11]),
+];
+
+/// Of a chain, whose root is edited.
+const OF_CHAIN: Rows = &[
+    ("a chain", FITS, 0, [0, 0]),
+    ("a chain, further on", ([2, 30, 31], [15, 13]), 0, [0, 0]),
+    ("a chain, at the end", ([3, 30, 30], [18, 12]), 0, [0, 0]),
+];
+
+/// Of M, with numbers of no cabinet.
+const UNKNOWN: Rows = &[
+    ("no such cabinet", FITS, 3, [0, 14]),
+    ("no such cabinet, past", PAST, 3, [24, 24]),
+    ("the largest cabinet, past", PAST, MOST, [24, 24]),
+    (
+        "no such cabinet, short",
+        ([2, 20, 20], [9, 11]),
+        3,
+        [11, 11],
+    ),
+];
+
+/// Of a road without a plan.
+const OF_SHUT: Rows = &[
+    ("no plan", FITS, 2, [12, 12]),
+    ("no plan, past", PAST, 2, [24, 24]),
+    ("no plan, past, no such cabinet", PAST, 3, [24, 24]),
+];
+
+/// Of sheets that the reader refuses.
+const OF_CUT: Rows = &[("cut", FITS, 1, [3, 3]), ("cut, past", PAST, 1, [3, 3])];
+const OF_PAIR: Rows = &[("a pair of no cabinet, past", PAST, 1, [19, 19])];
 
 /// A road of no service and one cabinet.
 fn smallest() -> Vec<u8> {
@@ -179,14 +154,38 @@ fn shut() -> Vec<u8> {
 
 /// All that are written down.
 pub fn all() -> Vec<Spanned> {
-    let of_m = OF_M.map(|(name, numbers, refusal)| (name, m(), numbers, 1, [refusal; 2]));
-    let all = of_m.into_iter().chain(others());
-    let spanned = |(name, sheet, numbers, cabinet, refusals): Written| {
-        let ([output, costs, choices], [first, number]) = numbers;
-        let [refusal, edit_refusal] = refusals;
+    let unknown_pair = tight(&m_barred(&[[0, 3]]));
+    let others = [
+        (smallest(), OF_SMALLEST),
+        (chain(), OF_CHAIN),
+        (m(), UNKNOWN),
+        (shut(), OF_SHUT),
+        (m()[..67].to_vec(), OF_CUT),
+        (unknown_pair, OF_PAIR),
+    ];
+    let mut all: Vec<Spanned> = OF_M
+        .map(|(name, numbers, refusal)| Spanned::new(name, &m(), numbers, 1, [refusal; 2]))
+        .into();
+    for (sheet, rows) in others {
+        let rows = rows.iter().copied();
+        all.extend(rows.map(|(name, numbers, cabinet, refusals)| {
+            Spanned::new(name, &sheet, numbers, cabinet, refusals)
+        }));
+    }
+    all
+}
+
+impl Spanned {
+    fn new(
+        name: &'static str,
+        sheet: &[u8],
+        ([output, costs, choices], [first, number]): Numbers,
+        cabinet: usize,
+        [refusal, edit_refusal]: [u64; 2],
+    ) -> Spanned {
         Spanned {
             name,
-            sheet,
+            sheet: sheet.to_vec(),
             lent: Lent {
                 output,
                 costs,
@@ -197,6 +196,5 @@ pub fn all() -> Vec<Spanned> {
             refusal,
             edit_refusal,
         }
-    };
-    all.map(spanned).collect()
+    }
 }

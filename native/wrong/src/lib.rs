@@ -43,9 +43,9 @@ const SIZE: Size = Size {
 };
 
 /// Compares up to so many random cases, then those written down for barred pairs, for ties, for
-/// framing, for bills and for tidy copies, then the spans written down, and the bound for all numbers
-/// around the limits. Gives the first case that shows a difference, and the first line of what it
-/// shows.
+/// framing, for bills and for tidy copies, then the spans written down, and the bound for all
+/// numbers around the limits. Gives the first case that shows a difference, and the first line of
+/// what it shows.
 pub fn first_difference(fault: Option<Fault>, cases: usize, seed: u64) -> Option<(String, String)> {
     let subject = Faulty(fault);
     let mut random = Random::new(seed);

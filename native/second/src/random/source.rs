@@ -22,8 +22,8 @@ impl Random {
         self.0.wrapping_mul(0x2545_F491_4F6C_DD1D)
     }
 
-    /// A source of its own by what this one gives next. This one stays as it is, so that all that is
-    /// drawn from it stays the same.
+    /// A source of its own by what this one gives next. This one stays as it is, so that all that
+    /// is drawn from it stays the same.
     pub fn beside(&self) -> Random {
         Random::new(self.clone().next())
     }

@@ -1,5 +1,6 @@
-//! Spans of lent tables: such as suffice, with entries before, in and behind them that nobody needs,
-//! such as are too short, and such as end past a table, some by numbers whose sum passes 64 bits.
+//! Spans of lent tables: such as suffice, with entries before, in and behind them that nobody
+//! needs, such as are too short, and such as end past a table, some by numbers whose sum passes 64
+//! bits.
 
 use super::{Lent, Random};
 use crate::span::Span;
@@ -114,8 +115,8 @@ fn fewer(random: &mut Random, entries: usize) -> usize {
     random.pick(&[one_less, one_less, entries / 2, 0])
 }
 
-/// Some entries past a length, often just one: with more entries, further on, or further on with too
-/// few.
+/// Some entries past a length, often just one: with more entries, further on, or further on with
+/// too few.
 fn past(random: &mut Random, fits: Span, length: usize, entries: usize) -> Span {
     let by = random.pick(&[1, 1, 1, 2, 1 + entries]);
     let number = match random.below(3) {
