@@ -65,7 +65,7 @@ impl Attempt {
         random: &mut Random,
         tally: &mut Tally,
     ) -> Result<bool, String> {
-        let entries = self.edited.cabinets.len() << self.edited.services.len();
+        let entries = self.edited.entries();
         let mut right = self.memory.tables(0, entries);
         let lent = self.memory.lent();
         let asked = Asked::Edit(self.cabinet);

@@ -34,11 +34,6 @@ pub fn compare_joint(
     Ok(())
 }
 
-/// The entries that a road needs.
-fn entries(records: &Sheet) -> usize {
-    records.cabinets.len() << records.services.len()
-}
-
 /// A road with its span, its output and its memory of its own.
 struct Tenant {
     edits: Edits,
@@ -108,9 +103,9 @@ impl Office<'_> {
         random: &mut Random,
         tally: &mut Tally,
     ) -> Office<'a> {
-        let drawn = side_by_side(random, records.map(entries));
+        let drawn = side_by_side(random, records.map(Sheet::entries));
         tally.joint_list();
-        for turn in Turn::of(&drawn, records.map(entries)) {
+        for turn in Turn::of(&drawn, records.map(Sheet::entries)) {
             tally.event(Event::Joint(turn));
         }
         let Spans {

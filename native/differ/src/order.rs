@@ -39,12 +39,11 @@ impl Order {
         let mut order = self;
         let cabinet = some_cabinet(random, records);
         order.asked = random.pick(&[Asked::Plan, Asked::Keep, Asked::Edit(cabinet)]);
-        let entries = records.cabinets.len() << records.services.len();
         let span = &mut order.span;
         match random.below(6) {
             0 => order.sheet = damage(random, records).1,
             1 => order.places = random.below(records.services.len()),
-            2 => span.number = random.below(entries),
+            2 => span.number = random.below(records.entries()),
             3 => span.first += costs,
             4 => span.number = random.pick(&[usize::MAX, span.first.wrapping_neg()]),
             _ => order.asked = Asked::Edit(records.cabinets.len() + random.below(3)),

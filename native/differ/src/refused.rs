@@ -64,7 +64,7 @@ impl Between<'_> {
 
     /// Lends one table or both shorter than is needed, sometimes the output too.
     fn shorten(&self, random: &mut Random, lent: &mut Lent) {
-        let entries = self.records.cabinets.len() << self.records.services.len();
+        let entries = self.records.entries();
         let which = random.between(1, 3);
         let short = random.pick(&[entries - 1, entries / 2, 0]);
         if which & 1 != 0 {

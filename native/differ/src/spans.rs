@@ -31,10 +31,7 @@ impl<'a> Road<'a> {
 
     /// The places and the entries that it needs; some, where it is refused.
     fn needs(&self) -> (usize, usize) {
-        let of = |records: &Sheet| {
-            let r = records.services.len();
-            (r, records.cabinets.len() << r)
-        };
+        let of = |records: &Sheet| (records.services.len(), records.entries());
         self.records().map_or((2, 12), of)
     }
 
@@ -216,7 +213,8 @@ impl Attempt {
         for spot in made.spots() {
             tally.event(Event::Span(call, spot));
         }
-        if whole && refusal != 10 && self.lent.costs != self.lent.choices {
+        let worked = matches!(refusal, 0 | 12 | 23);
+        if whole && worked && self.lent.costs != self.lent.choices {
             tally.event(Event::Span(call, Spot::Whole));
         }
     }

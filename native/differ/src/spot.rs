@@ -130,7 +130,7 @@ impl Made<'_> {
 
     /// Of a call that worked in its span.
     fn worked(&self, records: &Sheet) -> Vec<Spot> {
-        let entries = entries(records);
+        let entries = records.entries();
         let Span { first, number } = self.span;
         let Lent { costs, choices, .. } = self.lent;
         Made::of(&[
@@ -147,7 +147,7 @@ impl Made<'_> {
 
     /// Of a call with 11.
     fn short(&self, records: &Sheet) -> Vec<Spot> {
-        let entries = entries(records);
+        let entries = records.entries();
         let Span { first, number } = self.span;
         let one_short = number + 1 == entries && self.shorter() >= entries;
         Made::of(&[
@@ -180,14 +180,9 @@ impl Made<'_> {
     fn order(&self, records: &Sheet) -> Vec<Spot> {
         let unknown = |number: usize| number >= records.cabinets.len();
         Made::of(&[
-            (Spot::Before11, self.span.number < entries(records)),
+            (Spot::Before11, self.span.number < records.entries()),
             (Spot::Before14, self.cabinet.is_some_and(unknown)),
             (Spot::Before12, !self.solvable),
         ])
     }
-}
-
-/// The entries that a road needs.
-fn entries(records: &Sheet) -> usize {
-    records.cabinets.len() << records.services.len()
 }

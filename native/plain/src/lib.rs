@@ -32,7 +32,7 @@ pub fn plan(sheet: &[u8], output: &mut [u16], costs: &mut [u64], choices: &mut [
     if refusal != 0 {
         return Answer::refused(refusal, 0);
     }
-    let entries = sheet.cabinets.len() << sheet.services.len();
+    let entries = sheet.entries();
     let costs = &mut costs[..entries];
     let choices = &mut choices[..entries];
     let count = fill(&sheet, FRAMING, costs, choices);

@@ -38,12 +38,11 @@ impl Span {
 
 /// The refusal of what is lent for an accepted sheet, 10 before 24 before 11, or 0.
 pub fn lent_span(sheet: &Sheet, lent: Lent, span: Span) -> u64 {
-    let entries = sheet.cabinets.len() << sheet.services.len();
     if lent.output < sheet.services.len() {
         10
     } else if span.is_past(lent) {
         24
-    } else if span.number < entries {
+    } else if span.number < sheet.entries() {
         11
     } else {
         0
@@ -96,9 +95,8 @@ fn answered(accepted: Result<Sheet, u64>, left: impl Fn(&Sheet) -> Tables) -> (A
 
 /// The tables that a planning call leaves: all entries that it works in are 0.
 pub fn cleared(sheet: &Sheet) -> Tables {
-    let entries = sheet.cabinets.len() << sheet.services.len();
     Tables {
-        costs: vec![0; entries],
-        choices: vec![0; entries],
+        costs: vec![0; sheet.entries()],
+        choices: vec![0; sheet.entries()],
     }
 }

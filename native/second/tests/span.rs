@@ -7,7 +7,7 @@ use second::random::road::road;
 use second::random::span::span;
 use second::random::{Lent, Random, Size};
 use second::span::{accepted, lent_span};
-use second::{Span, Tables, edit_span, keep, keep_span, plan, plan_span, spanned};
+use second::{Sheet, Span, Tables, edit_span, keep, keep_span, plan, plan_span, spanned};
 
 const MOST: usize = usize::MAX;
 
@@ -164,8 +164,7 @@ fn spans_drawn() {
     let mut times = [0; 25];
     for _ in 0..3000 {
         let (_, sheet) = road(&mut random, SIZE);
-        let entries = sheet.cabinets.len() << sheet.services.len();
-        let (lent, span) = span(&mut random, sheet.services.len(), entries);
+        let (lent, span) = span(&mut random, sheet.services.len(), sheet.entries());
         let refusal = lent_span(&sheet, lent, span);
         assert_eq!(
             accepted(&tight(&sheet), None, lent, span)
@@ -192,7 +191,7 @@ fn two_roads() {
         assert_ne!(sheet.services.len(), other.services.len());
         assert_ne!(sheet.cabinets.len(), other.cabinets.len());
         let roads = [&sheet, &other];
-        let entries = roads.map(|road| road.cabinets.len() << road.services.len());
+        let entries = roads.map(Sheet::entries);
         let drawn = side_by_side(&mut random, entries);
         for (road, span) in roads.into_iter().zip(drawn.spans) {
             let lent = Lent {

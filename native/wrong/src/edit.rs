@@ -120,7 +120,7 @@ impl Faulty {
         let cleared = refusal == 12 && self.has(Fault::EditClearedIn12)
             || refusal == 23 && self.has(Fault::EditClearedIn23);
         if cleared {
-            lent.clear(sheet.cabinets.len() << sheet.services.len());
+            lent.clear(sheet.entries());
         }
         (refusal, values)
     }

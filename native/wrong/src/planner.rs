@@ -105,7 +105,6 @@ impl Faulty {
 
     /// Writes the plan and leaves the tables as they should be.
     fn leave(&self, sheet: &Sheet, rows: &Rows, refusal: u64, lent: Lent) {
-        let r = sheet.services.len();
         let Lent {
             output,
             costs,
@@ -131,7 +130,7 @@ impl Faulty {
         let entries = match self.0 {
             Some(Fault::PlanAllCleared) => usize::MAX,
             Some(Fault::PlanStride1024) => sheet.cabinets.len() * 1024,
-            _ => sheet.cabinets.len() << r,
+            _ => sheet.entries(),
         };
         costs.iter_mut().take(entries).for_each(|e| *e = 0);
         if !self.has(Fault::PlanChoicesKept) {

@@ -15,11 +15,6 @@ pub struct Site {
     pub span: Option<Span>,
 }
 
-/// The entries that a road needs.
-fn entries(sheet: &Sheet) -> usize {
-    sheet.cabinets.len() << sheet.services.len()
-}
-
 impl Faulty {
     /// Makes a call; the number is that of the cabinet edited.
     pub fn call(
@@ -133,7 +128,7 @@ impl Faulty {
             Some(Slip::ShortExact) => number.saturating_sub(1),
             _ => number,
         };
-        measured < entries(sheet) + usize::from(self.has(Fault::PlanExactTable))
+        measured < sheet.entries() + usize::from(self.has(Fault::PlanExactTable))
     }
 
     /// The refusal of what is lent and of the span, or 0.
@@ -178,7 +173,7 @@ impl Faulty {
     /// The entries that a call works in, if both tables have as many as the road needs.
     pub fn part<'a>(&self, sheet: &Sheet, lent: &'a mut Lent, site: Site) -> Option<Lent<'a>> {
         let Span { first, number } = self.span(lent, site);
-        let (entries, row) = (entries(sheet), 1 << sheet.services.len());
+        let (entries, row) = (sheet.entries(), 1 << sheet.services.len());
         let number = number.max(entries);
         let [costs, choices] = match self.slip(site) {
             Some(Slip::FromStart) => [0, 0],
@@ -222,7 +217,7 @@ impl Faulty {
         let Some(span) = site.span else { return };
         let [first, rows, end] = [
             span.first,
-            span.first.saturating_add(entries(sheet)),
+            span.first.saturating_add(sheet.entries()),
             span.first.saturating_add(span.number),
         ];
         let one = |place: usize| place..place.saturating_add(1);
