@@ -69,14 +69,6 @@ sentences! {
 }
 
 impl Slip {
-    /// It is one of calls that name no span.
-    pub fn is_without(self) -> bool {
-        matches!(
-            self,
-            Slip::WithoutLonger | Slip::WithoutCosts | Slip::WithoutChoices
-        )
-    }
-
     /// It can be made in this call.
     fn is_of(self, call: Call) -> bool {
         let edits = matches!(
