@@ -172,28 +172,13 @@ impl Memory {
             Asked::Keep => subject.keep(bytes, output, costs, choices, values),
             Asked::Edit(c) => subject.edit(bytes, c, output, costs, choices, values),
             Asked::PlanSpan(span) => {
-                let tables = Spanned {
-                    costs,
-                    choices,
-                    span,
-                };
-                subject.plan_span(bytes, output, tables, values)
+                subject.plan_span(bytes, output, in_span(costs, choices, span), values)
             }
             Asked::KeepSpan(span) => {
-                let tables = Spanned {
-                    costs,
-                    choices,
-                    span,
-                };
-                subject.keep_span(bytes, output, tables, values)
+                subject.keep_span(bytes, output, in_span(costs, choices, span), values)
             }
             Asked::EditSpan(c, span) => {
-                let tables = Spanned {
-                    costs,
-                    choices,
-                    span,
-                };
-                subject.edit_span(bytes, c, output, tables, values)
+                subject.edit_span(bytes, c, output, in_span(costs, choices, span), values)
             }
         }
     }
@@ -219,5 +204,14 @@ impl Memory {
             .expect_from(given.first, "choice table", choices)?;
         self.settle();
         Ok(())
+    }
+}
+
+/// Both tables with a span of them.
+fn in_span<'a>(costs: &'a mut [u64], choices: &'a mut [u16], span: Span) -> Spanned<'a> {
+    Spanned {
+        costs,
+        choices,
+        span,
     }
 }

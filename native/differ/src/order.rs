@@ -33,8 +33,8 @@ impl Order {
         }
     }
 
-    /// Any call for the same road, with a sheet, places, a span or a cabinet's number that is likely
-    /// to be refused, where the cost table has so many entries.
+    /// Any call for the same road, with a sheet, places, a span or a cabinet's number that is
+    /// likely to be refused, where the cost table has so many entries.
     pub fn harmed(self, records: &Sheet, costs: usize, random: &mut Random) -> Order {
         let mut order = self;
         let cabinet = some_cabinet(random, records);

@@ -170,8 +170,8 @@ impl Attempt {
         Ok(())
     }
 
-    /// The right answer, and what the span's first entries hold then; nothing where it is left open.
-    /// Before an edit the span gets what the edit needs, but once in four times stays dirty.
+    /// The right answer, and what the span's first entries hold then; nothing where it is left
+    /// open. Before an edit the span gets what the edit needs, but once in four times stays dirty.
     fn right(
         &self,
         road: &Road,
