@@ -1,12 +1,14 @@
 //! Times the proved planner beside the planner by rows in plain Rust, which leaves ties to the
-//! earlier split, in one run, and prints a Markdown table; then edits beside whole new runs; then the
-//! check and the bill of a plan on the largest chain. `bench [RUNS]`: the median of so many runs of
-//! each planner, and of each edit, 7 by default.
+//! earlier split, in one run, and prints a Markdown table; then edits beside whole new runs; then
+//! calls on a span in the middle of larger tables beside those on whole tables; then the check and
+//! the bill of a plan on the largest chain. `bench [RUNS]`: the median of so many runs of each
+//! planner, of each edit, and of each call on a span, 7 by default.
 #![forbid(unsafe_code)]
 
 mod edits;
 mod plans;
 mod roads;
+mod spans;
 mod timing;
 
 use roads::Shape;
@@ -47,6 +49,8 @@ fn main() {
     println!();
     of_edits(runs);
     println!();
+    of_spans(runs);
+    println!();
     of_a_plan();
 }
 
@@ -66,6 +70,21 @@ fn of_edits(runs: usize) {
             times.edit * 1e3,
             times.keep * 1e3,
             times.edit / times.keep,
+        );
+    }
+}
+
+/// Prints the times of calls on whole tables, each beside the same on a span of larger ones.
+fn of_spans(runs: usize) {
+    println!("| call on the largest random tree | whole tables, ms | span, ms | span / whole |");
+    println!("|---|---:|---:|---:|");
+    for times in spans::all(runs) {
+        println!(
+            "| {} | {:.3} | {:.3} | {:.2} |",
+            times.call,
+            times.whole * 1e3,
+            times.span * 1e3,
+            times.span / times.whole,
         );
     }
 }

@@ -7,8 +7,8 @@ use second::feature::Feature;
 use second::form::Form;
 
 /// So many random cases must have among them plans of which others cost as much, plans and roads
-/// that framing decides, edits of every kind, every kind of answer of the writer, and sheets of every
-/// form.
+/// that framing decides, edits of every kind, calls on spans of every kind, alone and on two spans
+/// by turns, every kind of answer of the writer, and sheets of every form.
 const ENOUGH_CASES: usize = 1000;
 /// So many must have among them bills with every feature that chance gives; few roads have loads of
 /// about whole blocks.
@@ -45,7 +45,9 @@ pub fn missing(options: &Options, before: &Tally, after: &Tally) -> Option<Strin
         return Some("no random road had an answer that framing decides".to_string());
     }
     if let Some(event) = unmet(before, after) {
-        return Some(format!("among random edits there was no {event:?}"));
+        return Some(format!(
+            "among random edits and calls on spans there was no {event:?}"
+        ));
     }
     if options.cases >= ENOUGH_BILLS
         && let Some(feature) = unbilled(before, after, Feature::comes_by_chance)
@@ -55,7 +57,7 @@ pub fn missing(options: &Options, before: &Tally, after: &Tally) -> Option<Strin
     copies(before, after)
 }
 
-/// The first that did not come up among edits between two tallies.
+/// The first that did not come up among edits and calls on spans between two tallies.
 fn unmet(before: &Tally, after: &Tally) -> Option<Event> {
     let mut all = Event::all().into_iter();
     all.find(|&event| before.met(event) == after.met(event))
@@ -98,15 +100,15 @@ mod tests {
         tally
     }
 
-    /// Notes these edits.
+    /// Notes these edits and calls on spans.
     fn edit(tally: &mut Tally, events: &[Event]) {
         for &event in events {
             tally.event(event);
         }
     }
 
-    /// The same after ties, what framing decides, edits of every kind, more of these bills, these
-    /// answers of the writer, and the copies of these sheets.
+    /// The same after ties, what framing decides, edits and calls on spans of every kind, more of
+    /// these bills, these answers of the writer, and the copies of these sheets.
     fn tally(features: &[Feature], answers: &[u64], sheets: &[&str]) -> Tally {
         let mut tally = written_down();
         tally.tie(false);

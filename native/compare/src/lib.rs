@@ -8,17 +8,17 @@ mod proved;
 pub use options::Options;
 pub use proved::Proved;
 
-use differ::{Tally, compare, compare_bounds};
+use differ::{Tally, compare, compare_bounds, compare_spans};
 use second::random::case::{Origin, with_calls};
 use second::random::layout::layout;
 use second::random::road::{Kind, of_kind};
 use second::random::{Case, Random, Size, case};
 use second::{barred, billed, copies, framed, tied};
 
-/// Compares the bound for all numbers around the limits, then all cases: those written down for
-/// barred pairs, for ties, for framing, for bills and for tidy copies, random ones, and large
-/// roads. The error is the first difference in full, or what the cases written down, or enough
-/// random ones, should have shown and did not.
+/// Compares the bound for all numbers around the limits, the spans written down, then all cases:
+/// those written down for barred pairs, for ties, for framing, for bills and for tidy copies,
+/// random ones, and large roads. The error is the first difference in full, or what the cases
+/// written down, or enough random ones, should have shown and did not.
 pub fn run(options: &Options) -> Result<Tally, String> {
     let mut tally = Tally::default();
     let mut random = Random::new(options.seed);
@@ -27,6 +27,7 @@ pub fn run(options: &Options) -> Result<Tally, String> {
         cabinets: options.cabinets,
     };
     compare_bounds(&Proved, &mut random, &mut tally)?;
+    compare_spans(&Proved, &mut random.beside(), &mut tally)?;
     for (name, case) in written_down() {
         compare(&Proved, &case, &mut random, &mut tally)
             .map_err(|what| format!("{name}: {what}"))?;

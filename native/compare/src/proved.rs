@@ -1,9 +1,17 @@
 //! The proved planner as the comparison calls it.
 
-use differ::Subject;
+use differ::{Spanned, Subject};
 use gazrieksne::calls;
 
 pub struct Proved;
+
+/// The span as the interface names it.
+fn named(span: second::Span) -> gazrieksne::Span {
+    gazrieksne::Span {
+        first: span.first,
+        number: span.number,
+    }
+}
 
 impl Subject for Proved {
     fn read(&self, sheet: &[u8], counts: &mut [u64; 5]) -> u64 {
@@ -62,6 +70,52 @@ impl Subject for Proved {
         answer: &mut [u64; 3],
     ) -> u64 {
         calls::edit(sheet, cabinet, output, costs, choices, answer)
+    }
+
+    fn plan_span(
+        &self,
+        sheet: &[u8],
+        output: &mut [u16],
+        tables: Spanned,
+        answer: &mut [u64; 3],
+    ) -> u64 {
+        let Spanned {
+            costs,
+            choices,
+            span,
+        } = tables;
+        calls::plan_span(sheet, output, costs, choices, named(span), answer)
+    }
+
+    fn keep_span(
+        &self,
+        sheet: &[u8],
+        output: &mut [u16],
+        tables: Spanned,
+        answer: &mut [u64; 3],
+    ) -> u64 {
+        let Spanned {
+            costs,
+            choices,
+            span,
+        } = tables;
+        calls::keep_span(sheet, output, costs, choices, named(span), answer)
+    }
+
+    fn edit_span(
+        &self,
+        sheet: &[u8],
+        cabinet: usize,
+        output: &mut [u16],
+        tables: Spanned,
+        answer: &mut [u64; 3],
+    ) -> u64 {
+        let Spanned {
+            costs,
+            choices,
+            span,
+        } = tables;
+        calls::edit_span(sheet, cabinet, output, costs, choices, named(span), answer)
     }
 
     fn bill(

@@ -4,7 +4,7 @@ use compare::{Options, run};
 use differ::{Event, Tally};
 use second::feature::Feature;
 
-/// Every refusal of an edit, thousands of lists, and edits of every kind.
+/// Every refusal of an edit, thousands of lists, and edits and calls on spans of every kind.
 fn every_edit(tally: &Tally) {
     for refusal in (0..=12).chain([14, 18, 19, 23]) {
         assert!(tally.times("edit", refusal) > 0, "edit: {refusal}");
@@ -13,6 +13,20 @@ fn every_edit(tally: &Tally) {
     for event in Event::all() {
         assert!(tally.met(event) > 10, "{event:?}: {}", tally.met(event));
     }
+}
+
+/// Every refusal of the calls on spans, and hundreds of lists of calls on two.
+fn every_span(tally: &Tally) {
+    for refusal in (0..=12).chain([18, 19, 24]) {
+        for call in ["plan in a span", "keep in a span", "edit in a span"] {
+            assert!(tally.times(call, refusal) > 0, "{call}: {refusal}");
+        }
+    }
+    for refusal in [14, 23] {
+        let times = tally.times("edit in a span", refusal);
+        assert!(times > 0, "edit in a span: {refusal}");
+    }
+    assert!(tally.joint_lists() > 500, "{} lists", tally.joint_lists());
 }
 
 #[test]
@@ -35,6 +49,7 @@ fn no_difference_and_every_refusal() {
         assert!(tally.times("keep", refusal) > 0, "keep: {refusal}");
     }
     every_edit(&tally);
+    every_span(&tally);
     for refusal in (0..=9).chain(13..=16).chain([18, 19, 20, 22]) {
         assert!(tally.times("bill", refusal) > 0, "bill: {refusal}");
     }

@@ -5,12 +5,12 @@ use crate::event::Event;
 use crate::guarded::{Dirt, Guarded};
 use crate::memory::{Asked, Given, Memory};
 use crate::{Subject, Tally};
+use second::Sheet;
 use second::check::check_sheet;
 use second::hex::dump;
 use second::path::ancestors;
 use second::random::Random;
 use second::random::breach::{Breach, Broken, broken, spoil};
-use second::{Sheet, Tables};
 
 /// An edit of a road that breaks the rule in some way.
 pub fn breach(
@@ -65,11 +65,8 @@ impl Attempt {
         random: &mut Random,
         tally: &mut Tally,
     ) -> Result<bool, String> {
-        let entries = self.edited.cabinets.len() << self.edited.services.len();
-        let mut right = Tables {
-            costs: self.memory.costs.inside()[..entries].to_vec(),
-            choices: self.memory.choices.inside()[..entries].to_vec(),
-        };
+        let entries = self.edited.entries();
+        let mut right = self.memory.tables(0, entries);
         let lent = self.memory.lent();
         let asked = Asked::Edit(self.cabinet);
         let given = self.memory.call(subject, asked, sheet, lent, random)?;

@@ -17,7 +17,7 @@ const SMALL: usize = 3000;
 
 /// The road's tables are small, so that much can be asked of it.
 pub fn is_small(records: &Sheet) -> bool {
-    records.cabinets.len() << records.services.len() <= SMALL
+    records.entries() <= SMALL
 }
 
 /// A sheet of these records in any layout.
@@ -28,7 +28,7 @@ pub fn some_sheet(random: &mut Random, records: &Sheet) -> Vec<u8> {
 
 /// Lengths that suffice for a road, with places to spare.
 pub fn roomy(random: &mut Random, records: &Sheet) -> Lent {
-    let entries = records.cabinets.len() << records.services.len();
+    let entries = records.entries();
     Lent {
         output: records.services.len() + random.below(3),
         costs: entries + random.below(4),

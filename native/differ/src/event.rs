@@ -1,8 +1,11 @@
-//! What is told apart about edits.
+//! What is told apart about edits and about calls on spans.
 
+use crate::memory::Call;
+use crate::spot::Spot;
+use crate::turn::Turn;
 use second::random::breach::Breach;
 
-/// What came up among edits.
+/// What came up among edits, among calls on spans, and in lists of calls on two spans.
 #[derive(Clone, Copy, Debug, PartialEq, Eq, PartialOrd, Ord)]
 pub enum Event {
     /// An edit with a plan.
@@ -37,6 +40,10 @@ pub enum Event {
     BrokenPlan,
     /// An edit that breaks the rule, with 12.
     BrokenNoPlan,
+    /// This call on a span that lies so.
+    Span(Call, Spot),
+    /// This in a list of calls on two spans of the same tables.
+    Joint(Turn),
 }
 
 impl Event {
@@ -60,6 +67,11 @@ impl Event {
             Event::BrokenNoPlan,
         ];
         all.extend(Breach::ALL.map(Event::Broken));
+        for call in Call::ALL {
+            let spots = Spot::ALL.into_iter().filter(|spot| spot.is_of(call));
+            all.extend(spots.map(|spot| Event::Span(call, spot)));
+        }
+        all.extend(Turn::ALL.map(Event::Joint));
         all
     }
 }

@@ -33,6 +33,7 @@ impl Dirt for u64 {
 }
 
 /// Memory between guard places.
+#[derive(Clone)]
 pub struct Guarded<T> {
     all: Vec<T>,
     before: Vec<T>,
@@ -85,8 +86,15 @@ impl<T: Dirt> Guarded<T> {
 
     /// The first places hold these values now, and all others what they held before.
     pub fn expect(&self, name: &str, first: &[T]) -> Result<(), String> {
+        self.expect_from(0, name, first)
+    }
+
+    /// The places from this one on hold these values now, and all others what they held before.
+    pub fn expect_from(&self, start: usize, name: &str, values: &[T]) -> Result<(), String> {
         let mut wanted = self.before.clone();
-        wanted[GUARD..GUARD + first.len()].copy_from_slice(first);
+        if !values.is_empty() {
+            wanted[GUARD + start..][..values.len()].copy_from_slice(values);
+        }
         match (0..wanted.len()).find(|&i| self.all[i] != wanted[i]) {
             None => Ok(()),
             Some(i) => Err(format!(

@@ -1,7 +1,7 @@
 //! Compares the keeping call.
 
 use crate::alike::Alike;
-use crate::memory::{Asked, Memory};
+use crate::memory::{Asked, Call, Memory};
 use crate::{Subject, Tally};
 use second::keep::placings;
 use second::plan::solve;
@@ -27,10 +27,21 @@ impl Right {
         };
         Right { answer, tables }
     }
+
+    /// What the same entries hold after this call: a planning call clears them.
+    pub fn left(&self, call: Call) -> Tables {
+        match call {
+            Call::Plan => Tables {
+                costs: vec![0; self.tables.costs.len()],
+                choices: vec![0; self.tables.choices.len()],
+            },
+            Call::Keep | Call::Edit => self.tables.clone(),
+        }
+    }
 }
 
 /// The right tables of a road: by their definition where there are few placings, else by rows.
-pub fn tables(records: &Sheet) -> Tables {
+fn tables(records: &Sheet) -> Tables {
     match placings(records) <= FEW_PLACINGS {
         true => second::keep::tables(records),
         false => plain::tables(records),

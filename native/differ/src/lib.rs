@@ -10,25 +10,39 @@ mod editor;
 mod event;
 mod figures;
 mod guarded;
+mod joint;
 mod keeper;
 mod memory;
+mod order;
 mod planner;
 mod reader;
 mod refused;
+mod spans;
+mod spot;
 mod subject;
 mod tally;
+mod turn;
 mod writer;
 
 pub use event::Event;
 pub use figures::compare_bounds;
-pub use subject::Subject;
+pub use joint::compare_joint;
+pub use memory::Call;
+pub use spans::compare_spans;
+pub use spot::Spot;
+pub use subject::{Spanned, Subject};
 pub use tally::Tally;
+pub use turn::Turn;
 
 use alike::Alike;
 use bills::Road;
+use keeper::Right;
 use second::hex::dump;
 use second::random::{Case, Random};
 use second::{Sheet, Tables};
+
+/// Once in so many small roads there is a list of calls on its span and on another road's.
+const JOINT: usize = 2;
 
 /// Makes all calls of a case, and some of those that take no sheet. The error tells the first
 /// difference.
@@ -54,18 +68,23 @@ fn calls(
     reader::records(subject, &case.sheet, &right, random, tally)?;
     writer::tidy(subject, &alike, random, tally)?;
     writer::copy(subject, &alike, random, tally)?;
-    let road = Road {
+    let billed = Road {
         alike: &alike,
         records: &right,
     };
     for plan in &case.plans {
         checks::check(subject, &alike, plan, random, tally)?;
-        bills::bills(subject, &road, plan, &case.tariffs, random, tally)?;
+        bills::bills(subject, &billed, plan, &case.tariffs, random, tally)?;
     }
     if let Some(plan) = billed_by_limits(case) {
-        bills::limits(subject, &road, plan, random, tally)?;
+        bills::limits(subject, &billed, plan, random, tally)?;
     }
-    plans(subject, case, &alike, &right, random, tally)?;
+    let kept = right.as_ref().ok().map(Right::of);
+    plans(subject, case, &alike, kept.as_ref(), random, tally)?;
+    let kept = right.as_ref().ok().zip(kept.as_ref());
+    let sheet = &case.sheet;
+    let road = spans::Road { sheet, kept };
+    spans(subject, &road, &mut random.beside(), tally)?;
     if let Ok(records) = &right {
         edits(subject, records, random, tally)?;
     }
@@ -78,17 +97,38 @@ fn plans(
     subject: &dyn Subject,
     case: &Case,
     alike: &Alike,
-    records: &Result<Sheet, u64>,
+    kept: Option<&Right>,
     random: &mut Random,
     tally: &mut Tally,
 ) -> Result<(), String> {
-    let tables = records.as_ref().map_or(Tables::default(), keeper::tables);
+    let none = Tables::default();
+    let tables = kept.map_or(&none, |kept| &kept.tables);
     for &lent in &case.lent {
         let right = planner::right(&case.sheet, lent);
         planner::plan(subject, alike, lent, &right, random, tally)?;
-        keeper::keep(subject, alike, lent, (&right, &tables), random, tally)?;
+        keeper::keep(subject, alike, lent, (&right, tables), random, tally)?;
     }
     Ok(())
+}
+
+/// Calls on spans, of large roads for some; and once in so many times a list of calls on two spans.
+fn spans(
+    subject: &dyn Subject,
+    road: &spans::Road,
+    random: &mut Random,
+    tally: &mut Tally,
+) -> Result<(), String> {
+    let small = road.kept.filter(|(records, _)| editor::is_small(records));
+    if road.kept.is_some() && small.is_none() && !random.once_in(3) {
+        return Ok(());
+    }
+    spans::spans(subject, road, random, tally)?;
+    match small {
+        Some((records, _)) if random.once_in(JOINT) => {
+            compare_joint(subject, records, random, tally)
+        }
+        _ => Ok(()),
+    }
 }
 
 /// A list of edits, and some that break the rule; of large roads for some.

@@ -1,11 +1,13 @@
 //! Compares the planner.
 
 use crate::alike::Alike;
-use crate::guarded::{Guarded, same};
+use crate::guarded::Guarded;
+use crate::memory::{Asked, Memory};
 use crate::{Subject, Tally};
-use second::Answer;
 use second::plan::{MOST_PLANS, plans};
 use second::random::{Lent, Random};
+use second::span::cleared;
+use second::{Answer, Tables};
 
 /// The refusal, the group, the cost and the count; the plan written; and all that was lent: for a
 /// sheet and for its tidy copy.
@@ -42,7 +44,7 @@ fn framing_decides(sheet: &[u8], right: &Answer) -> bool {
     second::read(sheet).is_ok_and(|records| plain::figures(&records, 0) != figures)
 }
 
-/// One call, which must give this answer.
+/// One call, which must give this answer and clear the entries that it worked in.
 fn solve(
     subject: &dyn Subject,
     sheet: &[u8],
@@ -50,29 +52,15 @@ fn solve(
     right: &Answer,
     random: &mut Random,
 ) -> Result<(), String> {
-    let call = format!("plan with {lent:?}");
-    let within = |what: &str| format!("{call}: {what}");
-    let lent_sheet = Guarded::holding(random, sheet);
-    let mut output = Guarded::<u16>::dirty(random, lent.output);
-    let mut costs = Guarded::<u64>::dirty(random, lent.costs);
-    let mut choices = Guarded::<u16>::dirty(random, lent.choices);
-    let mut answer = Guarded::dirty(random, 3);
-    let refusal = subject.plan(
-        lent_sheet.inside(),
-        output.inside_mut(),
-        costs.inside_mut(),
-        choices.inside_mut(),
-        answer.array(),
-    );
-    same(&call, refusal, right.refusal)?;
-    let values = [right.group, right.cost, right.count];
-    answer.expect(&within("answer"), &values)?;
-    lent_sheet.expect_same(&within("sheet"))?;
-    let entries = used(sheet, refusal);
-    let plan = right.plan.as_deref().unwrap_or_default();
-    output.expect(&within(&written(sheet, &output, plan)), plan)?;
-    costs.expect(&within("cost table"), &vec![0; entries])?;
-    choices.expect(&within("choice table"), &vec![0; entries])
+    let cleared = match (right.refusal, second::read(sheet)) {
+        (0 | 12, Ok(records)) => cleared(&records),
+        _ => Tables::default(),
+    };
+    let mut memory = Memory::dirty(random, lent);
+    let given = memory.call(subject, Asked::Plan, sheet, lent, random);
+    given
+        .and_then(|given| memory.expect(&given, sheet, right, &cleared))
+        .map_err(|what| format!("plan with {lent:?}: {what}"))
 }
 
 /// The output's name, with what was written where the first plan should be, and what the check says
@@ -120,14 +108,5 @@ fn by_least_costs(sheet: &[u8], lent: Lent) -> Answer {
         ties: u64::from(plan != answer.plan),
         plan,
         ..answer
-    }
-}
-
-/// The table entries that a call with this answer may change.
-fn used(sheet: &[u8], refusal: u64) -> usize {
-    let records = second::read(sheet).unwrap_or_default();
-    match refusal {
-        0 | 12 => records.cabinets.len() << records.services.len(),
-        _ => 0,
     }
 }

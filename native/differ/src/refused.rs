@@ -6,7 +6,7 @@ use crate::memory::{Asked, Memory};
 use crate::{Subject, Tally};
 use second::random::damage::damage;
 use second::random::{Lent, Random};
-use second::{Answer, Sheet, Tables, group};
+use second::{Answer, Sheet, Tables};
 
 /// The edit that comes next in a list, of which forms are refused before it.
 pub struct Between<'a> {
@@ -45,11 +45,7 @@ impl Between<'_> {
             return Ok(());
         }
         let given = memory.call(subject, Asked::Edit(number), &sheet, lent, random);
-        let right = Answer {
-            refusal,
-            group: group(refusal),
-            ..Answer::default()
-        };
+        let right = Answer::refused(refusal, 0);
         let untouched = Tables::default();
         given
             .and_then(|given| memory.expect(&given, &sheet, &right, &untouched))
@@ -68,7 +64,7 @@ impl Between<'_> {
 
     /// Lends one table or both shorter than is needed, sometimes the output too.
     fn shorten(&self, random: &mut Random, lent: &mut Lent) {
-        let entries = self.records.cabinets.len() << self.records.services.len();
+        let entries = self.records.entries();
         let which = random.between(1, 3);
         let short = random.pick(&[entries - 1, entries / 2, 0]);
         if which & 1 != 0 {

@@ -1,5 +1,14 @@
 //! The interface, as the comparison calls it.
 
+use second::Span;
+
+/// Both tables, and the span of them that a call is to work in.
+pub struct Spanned<'a> {
+    pub costs: &'a mut [u64],
+    pub choices: &'a mut [u16],
+    pub span: Span,
+}
+
 /// An implementation of the interface. Calls give the refusal number, 0 for none, but for the
 /// record calls (1 if the record is there) and `weigh` (its flag). All places of `counts` and
 /// `answer` are written on every call; `record` only when the record is there.
@@ -38,6 +47,31 @@ pub trait Subject {
         output: &mut [u16],
         costs: &mut [u64],
         choices: &mut [u16],
+        answer: &mut [u64; 3],
+    ) -> u64;
+    /// Answer: group, cost, count.
+    fn plan_span(
+        &self,
+        sheet: &[u8],
+        output: &mut [u16],
+        tables: Spanned,
+        answer: &mut [u64; 3],
+    ) -> u64;
+    /// Answer: group, cost, count.
+    fn keep_span(
+        &self,
+        sheet: &[u8],
+        output: &mut [u16],
+        tables: Spanned,
+        answer: &mut [u64; 3],
+    ) -> u64;
+    /// Answer: group, cost, count.
+    fn edit_span(
+        &self,
+        sheet: &[u8],
+        cabinet: usize,
+        output: &mut [u16],
+        tables: Spanned,
         answer: &mut [u64; 3],
     ) -> u64;
     /// Tariff: block price, slot price, tax rate. Answer: group, net, tax, total.

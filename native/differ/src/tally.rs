@@ -1,6 +1,6 @@
 //! Counts of cases by kind, of calls by answer, of plans that were not the only cheapest, of what
-//! framing decided, of the features of bills, of what came up among edits, and of the forms of
-//! sheets that were copied.
+//! framing decided, of the features of bills, of what came up among edits and calls on spans, and
+//! of the forms of sheets that were copied.
 
 use crate::Event;
 use second::feature::Feature;
@@ -21,6 +21,7 @@ pub struct Tally {
     framed_roads: usize,
     features: BTreeMap<Feature, usize>,
     lists: usize,
+    joint_lists: usize,
     events: BTreeMap<Event, usize>,
     forms: BTreeMap<Form, usize>,
 }
@@ -101,12 +102,22 @@ impl Tally {
         self.lists
     }
 
-    /// Notes what came up among edits.
+    /// Notes a list of calls on two spans.
+    pub fn joint_list(&mut self) {
+        self.joint_lists += 1;
+    }
+
+    /// How many lists of calls on two spans there were.
+    pub fn joint_lists(&self) -> usize {
+        self.joint_lists
+    }
+
+    /// Notes what came up among edits or calls on spans.
     pub fn event(&mut self, event: Event) {
         *self.events.entry(event).or_default() += 1;
     }
 
-    /// How often this came up among edits.
+    /// How often this came up.
     pub fn met(&self, event: Event) -> usize {
         self.events.get(&event).copied().unwrap_or(0)
     }
@@ -156,8 +167,9 @@ impl Display for Tally {
         for (feature, times) in &self.features {
             writeln!(f, "{times:9} {feature:?}")?;
         }
-        writeln!(f, "lists of edits, and what came up in them:")?;
-        writeln!(f, "{:9} lists", self.lists)?;
+        writeln!(f, "lists of edits, calls on spans, and what came up:")?;
+        writeln!(f, "{:9} lists of edits", self.lists)?;
+        writeln!(f, "{:9} lists of calls on two spans", self.joint_lists)?;
         for (event, times) in &self.events {
             writeln!(f, "{times:9} {event:?}")?;
         }

@@ -4,7 +4,7 @@
 //! Safety is the same for all: a reference is never null, is aligned, and points to as many
 //! elements as its length says; references that are written overlap no other.
 
-use crate::raw;
+use crate::{Span, raw};
 
 /// `gz_read`: the refusal; counts are group, services, cabinets, streams, barred pairs.
 pub fn read(sheet: &[u8], counts: &mut [u64; 5]) -> u64 {
@@ -58,20 +58,7 @@ pub fn plan(
     choices: &mut [u16],
     answer: &mut [u64; 3],
 ) -> u64 {
-    // SAFETY: see the head of this file.
-    unsafe {
-        raw::gz_plan(
-            sheet.as_ptr(),
-            sheet.len(),
-            output.as_mut_ptr(),
-            output.len(),
-            costs.as_mut_ptr(),
-            costs.len(),
-            choices.as_mut_ptr(),
-            choices.len(),
-            answer,
-        )
-    }
+    whole(raw::gz_plan, sheet, output, costs, choices, answer)
 }
 
 /// `gz_keep`: the refusal; the answer is group, cost, count.
@@ -82,9 +69,21 @@ pub fn keep(
     choices: &mut [u16],
     answer: &mut [u64; 3],
 ) -> u64 {
+    whole(raw::gz_keep, sheet, output, costs, choices, answer)
+}
+
+/// One of the archive's functions that plan, with whole tables.
+fn whole(
+    function: raw::Planning,
+    sheet: &[u8],
+    output: &mut [u16],
+    costs: &mut [u64],
+    choices: &mut [u16],
+    answer: &mut [u64; 3],
+) -> u64 {
     // SAFETY: see the head of this file.
     unsafe {
-        raw::gz_keep(
+        function(
             sheet.as_ptr(),
             sheet.len(),
             output.as_mut_ptr(),
@@ -119,6 +118,104 @@ pub fn edit(
             costs.len(),
             choices.as_mut_ptr(),
             choices.len(),
+            answer,
+        )
+    }
+}
+
+/// `gz_plan_span`: the refusal; the answer is group, cost, count.
+pub fn plan_span(
+    sheet: &[u8],
+    output: &mut [u16],
+    costs: &mut [u64],
+    choices: &mut [u16],
+    span: Span,
+    answer: &mut [u64; 3],
+) -> u64 {
+    in_span(
+        raw::gz_plan_span,
+        sheet,
+        output,
+        costs,
+        choices,
+        span,
+        answer,
+    )
+}
+
+/// `gz_keep_span`: the refusal; the answer is group, cost, count.
+pub fn keep_span(
+    sheet: &[u8],
+    output: &mut [u16],
+    costs: &mut [u64],
+    choices: &mut [u16],
+    span: Span,
+    answer: &mut [u64; 3],
+) -> u64 {
+    in_span(
+        raw::gz_keep_span,
+        sheet,
+        output,
+        costs,
+        choices,
+        span,
+        answer,
+    )
+}
+
+/// One of the archive's functions that plan, with a span of the tables. Any numbers may be named: a
+/// span that is not within the tables is refused.
+fn in_span(
+    function: raw::PlanningInSpan,
+    sheet: &[u8],
+    output: &mut [u16],
+    costs: &mut [u64],
+    choices: &mut [u16],
+    span: Span,
+    answer: &mut [u64; 3],
+) -> u64 {
+    // SAFETY: see the head of this file.
+    unsafe {
+        function(
+            sheet.as_ptr(),
+            sheet.len(),
+            output.as_mut_ptr(),
+            output.len(),
+            costs.as_mut_ptr(),
+            costs.len(),
+            choices.as_mut_ptr(),
+            choices.len(),
+            span.first,
+            span.number,
+            answer,
+        )
+    }
+}
+
+/// `gz_edit_span`: the refusal; the answer is group, cost, count.
+pub fn edit_span(
+    sheet: &[u8],
+    cabinet: usize,
+    output: &mut [u16],
+    costs: &mut [u64],
+    choices: &mut [u16],
+    span: Span,
+    answer: &mut [u64; 3],
+) -> u64 {
+    // SAFETY: see the head of this file.
+    unsafe {
+        raw::gz_edit_span(
+            sheet.as_ptr(),
+            sheet.len(),
+            cabinet,
+            output.as_mut_ptr(),
+            output.len(),
+            costs.as_mut_ptr(),
+            costs.len(),
+            choices.as_mut_ptr(),
+            choices.len(),
+            span.first,
+            span.number,
             answer,
         )
     }

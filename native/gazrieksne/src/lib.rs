@@ -4,10 +4,14 @@
 //! of the C interface, whose header, `gazrieksne.h`, tells what a sheet, a plan and a refusal are.
 
 pub mod calls;
+mod planning;
 mod raw;
 mod refusal;
+mod span;
 
+pub use planning::{Planned, edit, edit_span, keep, keep_span, plan, plan_span};
 pub use refusal::{Group, Refusal};
+pub use span::Span;
 
 /// An output of so many bytes suffices for the tidy copy of any sheet.
 pub const LONGEST_COPY: usize = 11_438;
@@ -67,13 +71,6 @@ pub struct Stream {
 pub struct Pair {
     pub service: u64,
     pub cabinet: u64,
-}
-
-/// The cost of the plan found and the count of splits weighed.
-#[derive(Clone, Copy, Debug, PartialEq, Eq)]
-pub struct Planned {
-    pub cost: u64,
-    pub count: u64,
 }
 
 /// What the carrier charges.
@@ -164,60 +161,6 @@ pub fn check(sheet: &[u8], plan: &[u16]) -> Result<u64, Refusal> {
     let number = calls::check(sheet, plan, &mut answer);
     let [group, cost] = answer;
     Refusal::of(number, group, 0).map_or(Ok(cost), Err)
-}
-
-/// Finds a cheapest plan: of all cheapest plans the one with the lowest cabinet for service 0, then
-/// for service 1, and so on. It is written to the first places of the output, one a service; the
-/// tables are to work in, `Counts::entries` each.
-pub fn plan(
-    sheet: &[u8],
-    output: &mut [u16],
-    costs: &mut [u64],
-    choices: &mut [u16],
-) -> Result<Planned, Refusal> {
-    let mut answer = [0; 3];
-    let number = calls::plan(sheet, output, costs, choices, &mut answer);
-    let [group, cost, count] = answer;
-    Refusal::of(number, group, count).map_or(Ok(Planned { cost, count }), Err)
-}
-
-/// Finds a cheapest plan as `plan` does, and leaves in the tables what `edit` needs: after a plan
-/// and after refusal 12 (no valid plan) their first `Counts::entries` entries are filled. They hold
-/// nothing but what follows from the sheet, and may be copied, stored and lent again.
-pub fn keep(
-    sheet: &[u8],
-    output: &mut [u16],
-    costs: &mut [u64],
-    choices: &mut [u16],
-) -> Result<Planned, Refusal> {
-    let mut answer = [0; 3];
-    let number = calls::keep(sheet, output, costs, choices, &mut answer);
-    let [group, cost, count] = answer;
-    Refusal::of(number, group, count).map_or(Ok(Planned { cost, count }), Err)
-}
-
-/// Plans anew after one cabinet was changed: its capacity, its price, or the capacities and prices of
-/// its link, but not its parent. The tables must be as `keep` or the last `edit` left them, and the
-/// sheet must differ from the one of that call in this cabinet only. Then answer, output and tables
-/// are those of `keep` on this sheet; but only the rows from the cabinet up to the root are built
-/// anew, so that an edit costs the joins on that path.
-///
-/// The cabinet's number must be one of the sheet's, else the refusal is 14. Refusal 12 (no valid
-/// plan) leaves tables that the next edit can use; all refusals that come before it leave everything
-/// as it was. With any other tables there is still no wrong plan: one that is handed out is valid at
-/// its cost, though it need not be a cheapest one; else the refusal is 12, or 23 where the tables do
-/// not fit the sheet, and then `keep` has to be called.
-pub fn edit(
-    sheet: &[u8],
-    cabinet: usize,
-    output: &mut [u16],
-    costs: &mut [u64],
-    choices: &mut [u16],
-) -> Result<Planned, Refusal> {
-    let mut answer = [0; 3];
-    let number = calls::edit(sheet, cabinet, output, costs, choices, &mut answer);
-    let [group, cost, count] = answer;
-    Refusal::of(number, group, count).map_or(Ok(Planned { cost, count }), Err)
 }
 
 /// Makes the carrier's monthly bill of a plan. Its lines are written to the first places,

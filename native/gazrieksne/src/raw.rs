@@ -1,5 +1,33 @@
 //! The functions of the archive, as `gazrieksne.h` declares them.
 
+/// A function that plans with whole tables: `gz_plan` or `gz_keep`.
+pub type Planning = unsafe extern "C" fn(
+    sheet: *const u8,
+    sheet_len: usize,
+    output: *mut u16,
+    output_len: usize,
+    costs: *mut u64,
+    costs_len: usize,
+    choices: *mut u16,
+    choices_len: usize,
+    answer: *mut [u64; 3],
+) -> u64;
+
+/// The same with a span of them: `gz_plan_span` or `gz_keep_span`.
+pub type PlanningInSpan = unsafe extern "C" fn(
+    sheet: *const u8,
+    sheet_len: usize,
+    output: *mut u16,
+    output_len: usize,
+    costs: *mut u64,
+    costs_len: usize,
+    choices: *mut u16,
+    choices_len: usize,
+    first: usize,
+    number: usize,
+    answer: *mut [u64; 3],
+) -> u64;
+
 unsafe extern "C" {
     pub fn gz_read(sheet: *const u8, sheet_len: usize, counts: *mut [u64; 5]) -> u64;
     pub fn gz_service(
@@ -65,6 +93,46 @@ unsafe extern "C" {
         costs_len: usize,
         choices: *mut u16,
         choices_len: usize,
+        answer: *mut [u64; 3],
+    ) -> u64;
+    pub fn gz_plan_span(
+        sheet: *const u8,
+        sheet_len: usize,
+        output: *mut u16,
+        output_len: usize,
+        costs: *mut u64,
+        costs_len: usize,
+        choices: *mut u16,
+        choices_len: usize,
+        first: usize,
+        number: usize,
+        answer: *mut [u64; 3],
+    ) -> u64;
+    pub fn gz_keep_span(
+        sheet: *const u8,
+        sheet_len: usize,
+        output: *mut u16,
+        output_len: usize,
+        costs: *mut u64,
+        costs_len: usize,
+        choices: *mut u16,
+        choices_len: usize,
+        first: usize,
+        number: usize,
+        answer: *mut [u64; 3],
+    ) -> u64;
+    pub fn gz_edit_span(
+        sheet: *const u8,
+        sheet_len: usize,
+        cabinet: usize,
+        output: *mut u16,
+        output_len: usize,
+        costs: *mut u64,
+        costs_len: usize,
+        choices: *mut u16,
+        choices_len: usize,
+        first: usize,
+        number: usize,
         answer: *mut [u64; 3],
     ) -> u64;
     pub fn gz_bill(

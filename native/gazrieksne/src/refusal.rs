@@ -50,7 +50,7 @@ impl Display for Refusal {
             8 => "a wrong end of a stream",
             9 => "a link field of the root is not 0",
             10 => "the output is too short for a plan",
-            11 => "a table is too short",
+            11 => "a table, or the span that is named, is too short",
             12 => "no valid plan exists",
             13 => "the plan hasn't one place a service",
             14 => "the plan or the edit names a cabinet that isn't there",
@@ -62,6 +62,7 @@ impl Display for Refusal {
             21 => "the output is too short for the sheet to be written",
             22 => "a price or the tax rate is outside its limits, or there are too few places for the lines",
             23 => "the tables are not those of a sheet that differs only in this cabinet: run keep again",
+            24 => "the span ends past a table: name one that lies in both, or lend longer tables",
             _ => "an unknown refusal",
         })
     }

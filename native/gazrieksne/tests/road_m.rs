@@ -1,15 +1,9 @@
 //! The calls on the measured road M.
 
+mod roads;
+
 use gazrieksne::{Bill, Cabinet, Counts, Group, Pair, Planned, Refusal, Stream, Tariff};
-
-const M: [u16; 34] = [
-    2, 3, 1, 16, 20, 62, 68, 0, 2, 2, 65535, 4, 5, 0, 0, 0, 0, 0, 3, 1, 6, 2, 6, 1, 0, 3, 2, 2, 1,
-    6, 1, 0, 1, 3,
-];
-
-fn m() -> Vec<u8> {
-    M.iter().flat_map(|w| w.to_le_bytes()).collect()
-}
+use roads::{CHOICES, COSTS, M, bytes, m, m_edited};
 
 /// M with a block of barred pairs behind it.
 fn m_barred(pairs: &[[u16; 2]]) -> Vec<u8> {
@@ -18,7 +12,7 @@ fn m_barred(pairs: &[[u16; 2]]) -> Vec<u8> {
     words[7] = 68;
     words.push(pairs.len() as u16);
     words.extend(pairs.concat());
-    words.iter().flat_map(|w| w.to_le_bytes()).collect()
+    bytes(&words)
 }
 
 #[test]
@@ -79,7 +73,7 @@ fn m0(up: u16) -> Vec<u8> {
     let mut words = M;
     words[11] = 0;
     words[20] = up;
-    words.iter().flat_map(|w| w.to_le_bytes()).collect()
+    bytes(&words)
 }
 
 /// The stream of 3 takes 5 of its line, of which 3 are priced.
@@ -105,14 +99,6 @@ fn framing() {
     assert_eq!((planned, output), (Err(no_plan), [1, 2]));
 }
 
-/// A figure that is no cost.
-const NONE: u64 = 1_000_000_000_000_001;
-
-/// The tables that M leaves, by hand: alone, service 0 is cheapest on 1 for 2 and the stream of 3 up
-/// at 2, and service 1 there for 2 and the stream down at 1.
-const COSTS: [u64; 12] = [0, 8, 5, 15, 0, 2, 2, NONE, 0, 4, 4, NONE];
-const CHOICES: [u16; 12] = [0, 0, 0, 0, 9, 0, 0, 1, 9, 1, 2, 3];
-
 #[test]
 fn kept_tables() {
     let (mut output, mut costs, mut choices) = ([9; 3], [9; 13], [9; 13]);
@@ -127,14 +113,6 @@ fn kept_tables() {
     let refusal = gazrieksne::keep(&m(), &mut output, &mut costs[..11], &mut choices).unwrap_err();
     assert_eq!((refusal.number, refusal.group), (11, Group::Lender));
     assert_eq!((&costs[..12], &choices[..12]), (&COSTS[..], &CHOICES[..]));
-}
-
-/// M with another root capacity and another price of cabinet 2.
-fn m_edited(root: u16, price: u16) -> Vec<u8> {
-    let mut words = M;
-    words[11] = root;
-    words[26] = price;
-    words.iter().flat_map(|w| w.to_le_bytes()).collect()
 }
 
 /// Cabinet 2 gets dearer, so that only (0, 1) is left at 15; the root shuts, so that (1, 2) is all

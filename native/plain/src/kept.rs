@@ -2,7 +2,7 @@
 
 use crate::charges::Charges;
 use crate::keyed::{Key, Row, digits, key};
-use crate::{NONE, children, refused};
+use crate::{NONE, children};
 use second::check::check_sheet;
 use second::framing::FRAMING;
 use second::path::ancestors;
@@ -61,7 +61,7 @@ pub fn answer(sheet: &Sheet, tables: &Tables) -> Answer {
     let all = road.row - 1;
     let cost = tables.costs[all];
     if cost >= NONE {
-        return refused(12, count);
+        return Answer::refused(12, count);
     }
     let plan = digits(sheet.services.len(), road.read(tables, 0, all));
     match check_sheet(sheet, &plan) {
@@ -71,7 +71,7 @@ pub fn answer(sheet: &Sheet, tables: &Tables) -> Answer {
             plan: Some(plan),
             ..Answer::default()
         },
-        _ => refused(23, 0),
+        _ => Answer::refused(23, 0),
     }
 }
 

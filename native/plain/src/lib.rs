@@ -15,7 +15,7 @@ pub use kept::{Edited, answer, edit, tables};
 use charges::Charges;
 use second::framing::FRAMING;
 use second::plan::lent;
-use second::{Answer, Sheet, group, read};
+use second::{Answer, Sheet, read};
 
 /// A figure that is no cost.
 pub const NONE: u64 = 1_000_000_000_000_001;
@@ -26,13 +26,13 @@ pub const NONE: u64 = 1_000_000_000_000_001;
 pub fn plan(sheet: &[u8], output: &mut [u16], costs: &mut [u64], choices: &mut [u16]) -> Answer {
     let sheet = match read(sheet) {
         Ok(sheet) => sheet,
-        Err(refusal) => return refused(refusal, 0),
+        Err(refusal) => return Answer::refused(refusal, 0),
     };
     let refusal = lent(&sheet, output.len(), costs.len(), choices.len());
     if refusal != 0 {
-        return refused(refusal, 0);
+        return Answer::refused(refusal, 0);
     }
-    let entries = sheet.cabinets.len() << sheet.services.len();
+    let entries = sheet.entries();
     let costs = &mut costs[..entries];
     let choices = &mut choices[..entries];
     let count = fill(&sheet, FRAMING, costs, choices);
@@ -44,7 +44,7 @@ pub fn plan(sheet: &[u8], output: &mut [u16], costs: &mut [u64], choices: &mut [
     costs.fill(0);
     choices.fill(0);
     if cost >= NONE {
-        return refused(12, count);
+        return Answer::refused(12, count);
     }
     let plan = Some(output[..sheet.services.len()].to_vec());
     Answer {
@@ -63,15 +63,6 @@ pub fn figures(sheet: &Sheet, framing: u64) -> (Option<u64>, u64) {
     let mut costs = vec![0; entries];
     let count = fill(sheet, framing, &mut costs, &mut vec![0; entries]);
     (Some(costs[row - 1]).filter(|&cost| cost < NONE), count)
-}
-
-fn refused(refusal: u64, count: u64) -> Answer {
-    Answer {
-        refusal,
-        group: group(refusal),
-        count,
-        ..Answer::default()
-    }
 }
 
 /// The children of each cabinet in rising order.

@@ -27,7 +27,8 @@ pub struct Answer {
 }
 
 impl Answer {
-    fn refused(refusal: u64, count: u64) -> Answer {
+    /// A refusal, with the count of splits that comes with it.
+    pub fn refused(refusal: u64, count: u64) -> Answer {
         Answer {
             refusal,
             group: group(refusal),
@@ -45,7 +46,7 @@ pub fn plans(sheet: &Sheet) -> u64 {
 
 /// The refusal of the lent lengths for an accepted sheet, 10 before 11, or 0.
 pub fn lent(sheet: &Sheet, output: usize, costs: usize, choices: usize) -> u64 {
-    let entries = sheet.cabinets.len() << sheet.services.len();
+    let entries = sheet.entries();
     if output < sheet.services.len() {
         10
     } else if costs < entries || choices < entries {

@@ -37,6 +37,13 @@ pub struct Pair {
     pub cabinet: u16,
 }
 
+impl Sheet {
+    /// The entries that each table needs: one for each set of services on each cabinet.
+    pub fn entries(&self) -> usize {
+        self.cabinets.len() << self.services.len()
+    }
+}
+
 impl Cabinet {
     /// The cabinet with these words in the order of the sheet.
     pub fn from_words(words: [u16; 7]) -> Cabinet {

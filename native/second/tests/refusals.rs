@@ -170,9 +170,9 @@ fn streams_add_up() {
 
 #[test]
 fn groups() {
-    let groups: Vec<u64> = (0..25).map(group).collect();
+    let groups: Vec<u64> = (0..26).map(group).collect();
     let expected = [
-        0, 1, 1, 1, 1, 1, 1, 1, 1, 1, 2, 2, 3, 4, 4, 4, 4, 0, 1, 1, 4, 2, 2, 4, 0,
+        0, 1, 1, 1, 1, 1, 1, 1, 1, 1, 2, 2, 3, 4, 4, 4, 4, 0, 1, 1, 4, 2, 2, 4, 2, 0,
     ];
     assert_eq!(groups, expected);
 }

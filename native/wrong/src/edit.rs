@@ -2,12 +2,20 @@
 
 use crate::keep::{Lent, refused};
 use crate::rows::{NONE, Rows};
+use crate::slip::Slip;
+use crate::span::Site;
 use crate::{Fault, Faulty};
 use second::Sheet;
 
 impl Faulty {
     /// The refusal, and group, cost and count.
-    pub fn edit_answer(&self, bytes: &[u8], cabinet: usize, mut lent: Lent) -> (u64, [u64; 3]) {
+    pub fn edit_answer(
+        &self,
+        bytes: &[u8],
+        cabinet: usize,
+        lent: &mut Lent,
+        site: Site,
+    ) -> (u64, [u64; 3]) {
         let sheet = match self.records(bytes) {
             Ok(sheet) => sheet,
             Err(refusal) => {
@@ -17,25 +25,28 @@ impl Faulty {
                 return refused(refusal);
             }
         };
-        if second::read(bytes).is_err() {
-            // What only a faulty reader accepts need not be a road.
-            return (0, [0; 3]);
-        }
         let cabinet = self.taken_number(cabinet);
-        let refusal = self.edit_refusal(&sheet, cabinet, lent.lengths());
+        let refusal = self.edit_refusal(&sheet, cabinet, lent, site);
         if refusal != 0 {
             if self.touches(refusal) {
                 lent.touch();
             }
-            let (refusal, mut values) = refused(refusal);
-            if refusal == 14 && self.has(Fault::EditGroup14) {
-                values[0] = 2;
-            }
-            return (refusal, values);
+            return match refusal {
+                14 if self.has(Fault::EditGroup14) => (14, [2, 0, 0]),
+                14 => refused(14),
+                _ => self.lent_refused(refusal, &sheet, lent, site),
+            };
         }
         // A number that should have been refused stands for the last cabinet.
         let cabinet = cabinet.min(sheet.cabinets.len() - 1);
-        self.edit_tables(&sheet, cabinet, lent)
+        let found = [0, 1].map(|_| self.found(&sheet, lent, site));
+        let ([Some(old), Some(rows)], Some(part)) = (found, self.part(&sheet, lent, site)) else {
+            return (0, [0; 3]);
+        };
+        let rows = self.rebuilt(&sheet, cabinet, rows);
+        let (refusal, values) = self.edit_tables(&sheet, cabinet, [&old, &rows], part);
+        self.spill(&sheet, refusal, lent, site);
+        (refusal, values)
     }
 
     /// The number as it is taken.
@@ -48,10 +59,10 @@ impl Faulty {
         }
     }
 
-    /// The first of 10, 11 and 14 that applies, or 0.
-    fn edit_refusal(&self, sheet: &Sheet, cabinet: usize, lengths: [usize; 3]) -> u64 {
+    /// The first of 10, 24, 11 and 14 that applies, or 0.
+    fn edit_refusal(&self, sheet: &Sheet, cabinet: usize, lent: &Lent, site: Site) -> u64 {
         let s = sheet.cabinets.len();
-        let short = self.short(sheet, lengths);
+        let short = self.short(sheet, lent, site);
         let unknown = match self.0 {
             Some(Fault::EditNumberS) => cabinet > s,
             Some(Fault::EditNumberMost) => cabinet == usize::MAX,
@@ -63,6 +74,7 @@ impl Faulty {
         match (short, unknown) {
             (10, true) if self.has(Fault::Edit14Before10) => 14,
             (11, true) if self.has(Fault::Edit14Before11) => 14,
+            (24, true) if self.slip(site) == Some(Slip::After14) => 14,
             (0, true) => 14,
             _ => short,
         }
@@ -70,8 +82,7 @@ impl Faulty {
 
     /// The road has a plan.
     fn has_plan(&self, sheet: &Sheet) -> bool {
-        let rows = Faulty(None).rows(sheet, &[], &[]);
-        rows.costs[0].last().is_some_and(|&cost| cost < NONE)
+        Faulty(None).rows(sheet, &[], &[]).cost() < NONE
     }
 
     /// A refusal with this number writes to the tables.
@@ -79,24 +90,29 @@ impl Faulty {
         match refusal {
             10 => self.has(Fault::EditTouchedIn10),
             11 => self.has(Fault::EditTouchedIn11),
-            _ => self.has(Fault::EditTouchedIn14),
+            14 => self.has(Fault::EditTouchedIn14),
+            _ => false,
         }
     }
 
-    /// Rebuilds rows, writes them and answers.
-    fn edit_tables(&self, sheet: &Sheet, cabinet: usize, mut lent: Lent) -> (u64, [u64; 3]) {
-        let old = self.loaded(sheet, lent.costs, lent.choices);
-        let rows = self.rebuilt(sheet, cabinet, &lent);
+    /// Writes the rows that are rebuilt, and answers.
+    fn edit_tables(
+        &self,
+        sheet: &Sheet,
+        cabinet: usize,
+        [old, rows]: [&Rows; 2],
+        mut lent: Lent,
+    ) -> (u64, [u64; 3]) {
         let path = self.edit_path(sheet, cabinet);
-        let cost = rows.costs[0].last().copied().unwrap_or(NONE);
+        let cost = rows.cost();
         let none = cost >= NONE;
         if !none || !self.has(Fault::EditNotIn12) {
-            self.write_rows(sheet, &path, [&old, &rows], &mut lent);
+            self.write_rows(sheet, &path, [old, rows], &mut lent);
         }
-        let count = self.edit_count(sheet, &path, &old, &lent);
+        let count = self.edit_count(sheet, &path, old, &lent);
         let (refusal, values) = match none {
             true => self.edit_none(count),
-            false => self.edit_plan(sheet, &rows, cost, count, lent.output),
+            false => self.edit_plan(sheet, rows, cost, count, lent.output),
         };
         if none && self.has(Fault::EditOutputIn12) {
             lent.output.fill(0);
@@ -104,7 +120,7 @@ impl Faulty {
         let cleared = refusal == 12 && self.has(Fault::EditClearedIn12)
             || refusal == 23 && self.has(Fault::EditClearedIn23);
         if cleared {
-            lent.clear(sheet.cabinets.len() << sheet.services.len());
+            lent.clear(sheet.entries());
         }
         (refusal, values)
     }

@@ -1,27 +1,32 @@
 //! The faults, one sentence each.
 
-macro_rules! faults {
-    ($($name:ident $sentence:literal)*) => {
-        /// What an implementation gets wrong.
-        #[derive(Clone, Copy, Debug, PartialEq, Eq)]
-        pub enum Fault {
-            $(#[doc = $sentence] $name,)*
-        }
+use crate::sentences::sentences;
+use crate::slip::{self, Slip};
+use differ::Call;
 
-        impl Fault {
-            /// All faults.
-            pub const ALL: &'static [Fault] = &[$(Fault::$name,)*];
+impl Fault {
+    /// All faults.
+    pub fn all() -> Vec<Fault> {
+        let single = Fault::SENTENCES.iter().map(|&(fault, _)| fault);
+        single.chain(slip::faults()).collect()
+    }
 
-            pub fn sentence(self) -> &'static str {
-                match self {
-                    $(Fault::$name => $sentence,)*
-                }
-            }
+    pub fn sentence(self) -> String {
+        if let Fault::Span(call, slip) = self {
+            return slip::sentence(call, slip);
         }
-    };
+        let mut sentences = Fault::SENTENCES.iter();
+        let found = sentences.find(|(other, _)| *other == self);
+        found.map_or("", |(_, sentence)| sentence).to_string()
+    }
 }
 
-faults! {
+sentences! {
+    /// What an implementation gets wrong.
+    Fault {
+        /// A slip about spans in one of the calls that plan.
+        Span(Call, Slip),
+    }
     // The reader.
     ReadHighByteFirst "reader: the high byte of a word comes first"
     ReadHeaderOf17 "reader: fewer than 17 bytes give 1"

@@ -1,6 +1,7 @@
 //! The keeping call and its faults.
 
 use crate::rows::{NONE, Rows};
+use crate::span::Site;
 use crate::{Fault, Faulty};
 use second::{Sheet, group};
 
@@ -37,7 +38,7 @@ pub fn refused(refusal: u64) -> (u64, [u64; 3]) {
 
 impl Faulty {
     /// The refusal, and group, cost and count.
-    pub fn keep_answer(&self, bytes: &[u8], mut lent: Lent) -> (u64, [u64; 3]) {
+    pub fn keep_answer(&self, bytes: &[u8], lent: &mut Lent, site: Site) -> (u64, [u64; 3]) {
         let sheet = match self.records(bytes) {
             Ok(sheet) => sheet,
             Err(refusal) => {
@@ -47,26 +48,31 @@ impl Faulty {
                 return refused(refusal);
             }
         };
-        let short = self.short(&sheet, lent.lengths());
+        let short = self.short(&sheet, lent, site);
         if short != 0 {
             let touched = match short {
                 10 => self.has(Fault::KeepTouchedIn10),
-                _ => self.has(Fault::KeepTouchedIn11),
+                11 => self.has(Fault::KeepTouchedIn11),
+                _ => false,
             };
             if touched {
                 lent.touch();
             }
-            return refused(short);
+            return self.lent_refused(short, &sheet, lent, site);
         }
         let keeper = match self.has(Fault::KeepTieEarlier) {
             true => Faulty(Some(Fault::TieEarlier)),
             false => Faulty(self.0),
         };
-        let rows = keeper.rows(&sheet, lent.costs, lent.choices);
-        let cost = rows.costs[0].last().copied().unwrap_or(NONE);
+        let Some(mut part) = self.part(&sheet, lent, site) else {
+            return (0, [0; 3]);
+        };
+        let rows = keeper.rows(&sheet, part.costs, part.choices);
+        let cost = rows.cost();
         let refusal = if cost >= NONE { 12 } else { 0 };
-        self.keep_output(&sheet, &rows, refusal, lent.output);
-        self.keep_tables(&sheet, &rows, refusal, &mut lent);
+        self.keep_output(&sheet, &rows, refusal, part.output);
+        self.keep_tables(&sheet, &rows, refusal, &mut part);
+        self.spill(&sheet, refusal, lent, site);
         self.keep_values(refusal, cost, rows.count)
     }
 

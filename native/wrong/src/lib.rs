@@ -21,14 +21,18 @@ mod path;
 mod planner;
 mod reader;
 mod rows;
+mod sentences;
+mod slip;
+mod span;
 mod subject;
 mod ties;
 mod writer;
 
 pub use fault::Fault;
+pub use slip::Slip;
 pub use subject::Faulty;
 
-use differ::{Tally, compare, compare_bounds};
+use differ::{Tally, compare, compare_bounds, compare_spans};
 use second::random::{Random, Size, case};
 use second::{barred, billed, copies, framed, tied};
 
@@ -39,8 +43,9 @@ const SIZE: Size = Size {
 };
 
 /// Compares up to so many random cases, then those written down for barred pairs, for ties, for
-/// framing, for bills and for tidy copies, then the bound for all numbers around the limits. Gives
-/// the first case that shows a difference, and the first line of what it shows.
+/// framing, for bills and for tidy copies, then the spans written down, and the bound for all
+/// numbers around the limits. Gives the first case that shows a difference, and the first line of
+/// what it shows.
 pub fn first_difference(fault: Option<Fault>, cases: usize, seed: u64) -> Option<(String, String)> {
     let subject = Faulty(fault);
     let mut random = Random::new(seed);
@@ -61,6 +66,9 @@ pub fn first_difference(fault: Option<Fault>, cases: usize, seed: u64) -> Option
         if let Err(what) = compare(&subject, &case, &mut random, &mut tally) {
             return Some((name.to_string(), first_line(&what)));
         }
+    }
+    if let Err(what) = compare_spans(&subject, &mut random, &mut tally) {
+        return Some(("of the spans".to_string(), first_line(&what)));
     }
     compare_bounds(&subject, &mut random, &mut tally)
         .err()

@@ -5,8 +5,8 @@ use std::process::ExitCode;
 use wrong::{Fault, first_difference};
 
 fn main() -> ExitCode {
-    let mut unseen = 0;
-    for &fault in Fault::ALL {
+    let (all, mut unseen) = (Fault::all(), 0);
+    for &fault in &all {
         match first_difference(Some(fault), 5_000, 1) {
             Some((case, line)) => {
                 println!("{}\n    case {case}: {line}", fault.sentence());
@@ -17,6 +17,6 @@ fn main() -> ExitCode {
             }
         }
     }
-    println!("{} faults, {unseen} not seen", Fault::ALL.len());
+    println!("{} faults, {unseen} not seen", all.len());
     ExitCode::from(u8::from(unseen != 0))
 }

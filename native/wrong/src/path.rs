@@ -34,8 +34,7 @@ impl Faulty {
     }
 
     /// The rows of the tables with those of the path rebuilt.
-    pub fn rebuilt(&self, sheet: &Sheet, cabinet: usize, lent: &Lent) -> Rows {
-        let mut rows = self.loaded(sheet, lent.costs, lent.choices);
+    pub fn rebuilt(&self, sheet: &Sheet, cabinet: usize, mut rows: Rows) -> Rows {
         if self.has(Fault::EditOneNone) {
             let figures = rows.costs.iter_mut().flatten();
             figures.filter(|f| **f > NONE).for_each(|f| *f %= NONE);

@@ -1,47 +1,42 @@
 //! The planner and its faults.
 
+use crate::keep::{Lent, refused};
 use crate::rows::{NONE, Rows, children};
+use crate::span::Site;
 use crate::{Fault, Faulty};
-use second::{Sheet, group};
+use second::Sheet;
 
 impl Faulty {
     /// The refusal, and group, cost and count.
-    pub fn plan_answer(
-        &self,
-        bytes: &[u8],
-        output: &mut [u16],
-        costs: &mut [u64],
-        choices: &mut [u16],
-    ) -> (u64, [u64; 3]) {
+    pub fn plan_answer(&self, bytes: &[u8], lent: &mut Lent, site: Site) -> (u64, [u64; 3]) {
         let sheet = match self.records(bytes) {
             Ok(sheet) => sheet,
             Err(refusal) => {
                 if self.has(Fault::PlanTouchedInReader) {
-                    output.fill(0);
+                    lent.output.fill(0);
                 }
-                let lengths = [output.len(), costs.len(), choices.len()];
-                let refusal = self.lent_first(bytes, lengths, refusal);
-                return (refusal, [group(refusal), 0, 0]);
+                return refused(self.lent_first(bytes, lent, site, refusal));
             }
         };
-        let short = self.short(&sheet, [output.len(), costs.len(), choices.len()]);
-        let road_first = self.has(Fault::PlanRoadFirst);
+        let short = self.short(&sheet, lent, site);
         if short == 11 && self.has(Fault::PlanTouchedIn11) {
-            costs.fill(0);
+            lent.costs.fill(0);
         }
-        if short != 0 && !road_first {
-            return (short, [group(short), 0, 0]);
+        if short != 0 {
+            return match self.has(Fault::PlanRoadFirst) {
+                true => self.road_first(short, &sheet),
+                false => self.lent_refused(short, &sheet, lent, site),
+            };
         }
-        let rows = self.rows(&sheet, costs, choices);
-        let cost = rows.costs[0].last().copied().unwrap_or(NONE);
-        let refusal = match cost >= NONE || self.has(Fault::PlanNever) {
-            true => 12,
-            false => short,
+        let Some(part) = self.part(&sheet, lent, site) else {
+            return (0, [0; 3]);
         };
-        if refusal == 10 || refusal == 11 {
-            return (refusal, [group(refusal), 0, 0]);
-        }
-        self.leave(&sheet, &rows, refusal, output, costs, choices);
+        let rows = self.rows(&sheet, part.costs, part.choices);
+        let cost = rows.cost();
+        let none = cost >= NONE || self.has(Fault::PlanNever);
+        let refusal = if none { 12 } else { 0 };
+        self.leave(&sheet, &rows, refusal, part);
+        self.spill(&sheet, refusal, lent, site);
         self.values(refusal, cost, rows.count)
     }
 
@@ -63,28 +58,23 @@ impl Faulty {
         (12, [group, 0, count])
     }
 
-    /// The reader's refusal, unless that of what is lent comes before it.
-    fn lent_first(&self, bytes: &[u8], lengths: [usize; 3], refusal: u64) -> u64 {
-        if refusal < 18 || !self.has(Fault::PlanLentBefore18) {
-            return refusal;
-        }
-        match self.short(&self.gather(bytes), lengths) {
-            0 => refusal,
-            short => short,
+    /// 12 if the road has no plan, else this refusal.
+    pub fn road_first(&self, refusal: u64, sheet: &Sheet) -> (u64, [u64; 3]) {
+        let rows = Faulty(None).rows(sheet, &[], &[]);
+        match rows.cost() >= NONE {
+            true => (12, [3, 0, rows.count]),
+            false => refused(refusal),
         }
     }
 
-    /// The refusal of the lengths of output, cost table and choice table, or 0.
-    pub fn short(&self, sheet: &Sheet, [output, costs, choices]: [usize; 3]) -> u64 {
-        let places = sheet.services.len() + usize::from(self.has(Fault::PlanExactOutput));
-        let entries = sheet.cabinets.len() << sheet.services.len();
-        let entries = entries + usize::from(self.has(Fault::PlanExactTable));
-        let choices_short = choices < entries && !self.has(Fault::PlanChoicesShort);
-        match (output < places, costs < entries || choices_short) {
-            (true, true) if self.has(Fault::PlanTablesFirst) => 11,
-            (true, _) => 10,
-            (_, true) => 11,
-            _ => 0,
+    /// The reader's refusal, unless that of what is lent comes before it.
+    fn lent_first(&self, bytes: &[u8], lent: &Lent, site: Site, refusal: u64) -> u64 {
+        if refusal < 18 || !self.has(Fault::PlanLentBefore18) {
+            return refusal;
+        }
+        match self.short(&self.gather(bytes), lent, site) {
+            0 => refusal,
+            short => short,
         }
     }
 
@@ -114,16 +104,12 @@ impl Faulty {
     }
 
     /// Writes the plan and leaves the tables as they should be.
-    fn leave(
-        &self,
-        sheet: &Sheet,
-        rows: &Rows,
-        refusal: u64,
-        output: &mut [u16],
-        costs: &mut [u64],
-        choices: &mut [u16],
-    ) {
-        let r = sheet.services.len();
+    fn leave(&self, sheet: &Sheet, rows: &Rows, refusal: u64, lent: Lent) {
+        let Lent {
+            output,
+            costs,
+            choices,
+        } = lent;
         if refusal == 0 {
             if self.has(Fault::PlanOutputCleared) {
                 output.fill(0);
@@ -144,7 +130,7 @@ impl Faulty {
         let entries = match self.0 {
             Some(Fault::PlanAllCleared) => usize::MAX,
             Some(Fault::PlanStride1024) => sheet.cabinets.len() * 1024,
-            _ => sheet.cabinets.len() << r,
+            _ => sheet.entries(),
         };
         costs.iter_mut().take(entries).for_each(|e| *e = 0);
         if !self.has(Fault::PlanChoicesKept) {

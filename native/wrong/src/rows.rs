@@ -20,6 +20,13 @@ pub struct Rows {
     pub count: u64,
 }
 
+impl Rows {
+    /// The least cost of all services on the whole road, or a figure that is none.
+    pub fn cost(&self) -> u64 {
+        self.costs[0].last().copied().unwrap_or(NONE)
+    }
+}
+
 /// The children of a cabinet in rising order.
 pub fn children(sheet: &Sheet, p: usize) -> Vec<usize> {
     let all = 1..sheet.cabinets.len();

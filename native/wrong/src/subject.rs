@@ -3,7 +3,8 @@
 use crate::Fault;
 use crate::fourth::once;
 use crate::keep::Lent;
-use differ::Subject;
+use crate::span::Site;
+use differ::{Call, Spanned, Subject};
 use second::{Cabinet, Pair, Sheet, group};
 
 /// An implementation with this fault, or with none.
@@ -49,6 +50,33 @@ impl Faulty {
             _ => [group(refusal), 0, 0, 0, 0],
         }
     }
+}
+
+/// What is lent to a call without a span.
+fn whole<'a>(
+    output: &'a mut [u16],
+    costs: &'a mut [u64],
+    choices: &'a mut [u16],
+    call: Call,
+) -> (Lent<'a>, Site) {
+    let lent = Lent {
+        output,
+        costs,
+        choices,
+    };
+    (lent, Site { call, span: None })
+}
+
+/// What is lent to a call with one.
+fn in_span<'a>(output: &'a mut [u16], tables: Spanned<'a>, call: Call) -> (Lent<'a>, Site) {
+    let Spanned {
+        costs,
+        choices,
+        span,
+    } = tables;
+    let (lent, site) = whole(output, costs, choices, call);
+    let span = Some(span);
+    (lent, Site { span, ..site })
 }
 
 impl Subject for Faulty {
@@ -120,11 +148,8 @@ impl Subject for Faulty {
         choices: &mut [u16],
         answer: &mut [u64; 3],
     ) -> u64 {
-        let (refusal, values) = self.plan_answer(sheet, output, costs, choices);
-        if refusal == 0 || !self.has(Fault::PlanAnswerKept) {
-            *answer = values;
-        }
-        refusal
+        let (lent, site) = whole(output, costs, choices, Call::Plan);
+        self.call(sheet, 0, lent, site, answer)
     }
 
     fn keep(
@@ -135,16 +160,8 @@ impl Subject for Faulty {
         choices: &mut [u16],
         answer: &mut [u64; 3],
     ) -> u64 {
-        let lent = Lent {
-            output,
-            costs,
-            choices,
-        };
-        let (refusal, values) = self.keep_answer(sheet, lent);
-        if refusal == 0 || !self.has(Fault::KeepAnswerKept) {
-            *answer = values;
-        }
-        refusal
+        let (lent, site) = whole(output, costs, choices, Call::Keep);
+        self.call(sheet, 0, lent, site, answer)
     }
 
     fn edit(
@@ -156,16 +173,42 @@ impl Subject for Faulty {
         choices: &mut [u16],
         answer: &mut [u64; 3],
     ) -> u64 {
-        let lent = Lent {
-            output,
-            costs,
-            choices,
-        };
-        let (refusal, values) = self.edit_answer(sheet, cabinet, lent);
-        if refusal == 0 || !self.has(Fault::EditAnswerKept) {
-            *answer = values;
-        }
-        refusal
+        let (lent, site) = whole(output, costs, choices, Call::Edit);
+        self.call(sheet, cabinet, lent, site, answer)
+    }
+
+    fn plan_span(
+        &self,
+        sheet: &[u8],
+        output: &mut [u16],
+        tables: Spanned,
+        answer: &mut [u64; 3],
+    ) -> u64 {
+        let (lent, site) = in_span(output, tables, Call::Plan);
+        self.call(sheet, 0, lent, site, answer)
+    }
+
+    fn keep_span(
+        &self,
+        sheet: &[u8],
+        output: &mut [u16],
+        tables: Spanned,
+        answer: &mut [u64; 3],
+    ) -> u64 {
+        let (lent, site) = in_span(output, tables, Call::Keep);
+        self.call(sheet, 0, lent, site, answer)
+    }
+
+    fn edit_span(
+        &self,
+        sheet: &[u8],
+        cabinet: usize,
+        output: &mut [u16],
+        tables: Spanned,
+        answer: &mut [u64; 3],
+    ) -> u64 {
+        let (lent, site) = in_span(output, tables, Call::Edit);
+        self.call(sheet, cabinet, lent, site, answer)
     }
 
     fn bill(

@@ -12,7 +12,7 @@ fn no_difference_without_a_fault() {
 
 #[test]
 fn every_fault_is_seen() {
-    for &fault in Fault::ALL {
+    for fault in Fault::all() {
         let seen = first_difference(Some(fault), 5000, 7);
         assert!(seen.is_some(), "not seen: {}", fault.sentence());
     }
@@ -21,7 +21,7 @@ fn every_fault_is_seen() {
 #[test]
 fn every_fault_of_the_bound_is_seen_by_the_bounds_alone() {
     let mut seen = 0;
-    for &fault in Fault::ALL {
+    for fault in Fault::all() {
         if fault.sentence().starts_with("bound:") {
             let mut random = Random::new(7);
             let compared = compare_bounds(&Faulty(Some(fault)), &mut random, &mut Tally::default());
@@ -37,7 +37,7 @@ fn every_fault_of_the_bound_is_seen_by_the_bounds_alone() {
 fn every_fault_of_keeping_calls_and_edits_is_seen_within_a_thousand_cases() {
     for (start, least) in [("keep:", 24), ("edit:", 64)] {
         let mut seen = 0;
-        for &fault in Fault::ALL {
+        for fault in Fault::all() {
             if fault.sentence().starts_with(start) {
                 let found = first_difference(Some(fault), 1000, 3);
                 let case = found.map(|(case, _)| case).unwrap_or_default();
@@ -52,7 +52,7 @@ fn every_fault_of_keeping_calls_and_edits_is_seen_within_a_thousand_cases() {
 /// How many faults there are whose sentence starts so; each must be seen by one of these cases.
 fn seen_by(cases: &[Case], start: &str) -> usize {
     let mut seen = 0;
-    for &fault in Fault::ALL {
+    for fault in Fault::all() {
         if fault.sentence().starts_with(start) {
             let (mut random, mut tally) = (Random::new(7), Tally::default());
             let subject = Faulty(Some(fault));

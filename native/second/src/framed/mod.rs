@@ -53,7 +53,7 @@ impl Framed {
 
     /// The road with its calls, to be compared.
     pub fn case(&self) -> Case {
-        let entries = self.sheet.cabinets.len() << self.sheet.services.len();
+        let entries = self.sheet.entries();
         Case {
             origin: Origin::Directed(self.name),
             sheet: tight(&self.sheet),

@@ -80,8 +80,8 @@ pub fn with_calls(random: &mut Random, origin: Origin, sheet: Vec<u8>) -> Case {
     }
     let fitting = Lent {
         output: known.services.len(),
-        costs: known.cabinets.len() << known.services.len(),
-        choices: known.cabinets.len() << known.services.len(),
+        costs: known.entries(),
+        choices: known.entries(),
     };
     let lent = vec![roomy(random, fitting), short(random, fitting)];
     Case {

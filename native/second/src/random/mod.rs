@@ -1,4 +1,4 @@
-//! Random roads, damaged sheets, tariffs, edits and cases, the same for the same seed.
+//! Random roads, damaged sheets, tariffs, edits, spans and cases, the same for the same seed.
 
 pub mod amounts;
 pub mod bars;
@@ -6,10 +6,12 @@ pub mod breach;
 pub mod case;
 pub mod damage;
 pub mod edits;
+pub mod joint;
 pub mod layout;
 pub mod misplaced;
 pub mod road;
 pub mod source;
+pub mod span;
 pub mod tariff;
 pub mod tied;
 

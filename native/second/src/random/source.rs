@@ -1,5 +1,6 @@
 //! A small source of random numbers (xorshift64*).
 
+#[derive(Clone)]
 pub struct Random(u64);
 
 impl Random {
@@ -19,6 +20,12 @@ impl Random {
         self.0 ^= self.0 << 25;
         self.0 ^= self.0 >> 27;
         self.0.wrapping_mul(0x2545_F491_4F6C_DD1D)
+    }
+
+    /// A source of its own by what this one gives next. This one stays as it is, so that all that
+    /// is drawn from it stays the same.
+    pub fn beside(&self) -> Random {
+        Random::new(self.clone().next())
     }
 
     /// A number below n; 0 when n is 0.
