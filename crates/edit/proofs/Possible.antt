@@ -14,7 +14,6 @@ use Rattle.subsets.specs.Costs.{Cost, none, some}
 use Rattle.subsets.specs.Tree.{under}
 use Rattle.sheet.specs.Instance.{Instance, WellFormed, instance}
 use Rattle.sheet.specs.Refusals.{refusal}
-use Rattle.sheet.specs.declared.Refusal.{Refusal}
 use Rattle.sheet.proofs.Promises.{well-formed}
 use Rattle.embedding.specs.Plan.{cheapest}
 use Rattle.embedding.specs.First.{first-plan, places}
@@ -22,7 +21,6 @@ use Rattle.embedding.specs.Splits.{weighed}
 use Rattle.embedding.proofs.First.{places-length}
 use Rattle.lending.specs.declared.Span.{Span}
 use Rattle.lending.proofs.Rules.{enough-iff}
-use Rattle.planner.specs.Answers as answers
 use Rattle.planner.specs.Answers.{entries, solved}
 use Rattle.planner.specs.Lent.{OutputAfter}
 use Rattle.planner.specs.Kept as kept

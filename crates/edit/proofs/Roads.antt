@@ -15,18 +15,19 @@ use Rattle.lending.specs.declared.Span.{Span}
 use Rattle.lending.proofs.Spans.{apart-flip}
 use Rattle.lending.proofs.Rules.{lender-past}
 use Rattle.planner.specs.Answers.{entries, planned}
-use Rattle.planner.specs.Lent.{part-after, OutputAfter}
+use Rattle.planner.specs.Lent.{part-after, front-after, OutputAfter}
 use Rattle.planner.specs.Kept.{kept-costs, kept-choices}
 use Rattle.planner.specs.declared.Planned.{Planned}
 use Rattle.planner.specs.declared.Planned.the-variants.{Plan, Refused}
 use Rattle.planner.proofs.Solved.{planned-past}
-use Rattle.edit.specs.Calls.{Call, asked, Leaves, Keeps}
+use Rattle.edit.specs.Calls.{Call, called, asked, Leaves, Keeps}
 use Rattle.edit.specs.Changed.{Changed}
 use Rattle.edit.specs.Edits.{rules-before, number-before, Edits}
 use Rattle.edit.specs.Lists as lists
 use Rattle.edit.specs.Lists.{Kind, planning, keeping, editing, Does, Turn, OnSpan, Last, nothing, next, Allowed, InTheRule, AllFresh}
 use Rattle.edit.specs.Roads as roads
-use Rattle.edit.specs.Roads.{Road, one, other, same-road, Shared, own, OnTables, AgreeOn, Alike, Same, AllPairs}
+use Rattle.edit.specs.Roads.{Road, one, other, same-road, Shared, own, OnTables, Order, orders, AgreeOn, Alike, Same, AllPairs}
+use Rattle.edit.proofs.Possible.{some-outcome}
 use Rattle.edit.proofs.Lists.{leaves-within, zeros-long, kept-costs-long, kept-choices-long, refusing, does-lengths, does-apart}
 use Rattle.edit.proofs.Lists.{Holds, edit-keeps, holds-now, holds-then, all-fresh}
 
@@ -277,3 +278,39 @@ module _ (spans : Road → Span) (apart : Apart (spans one) (spans other)) (r : 
   pub roads-fresh : (t u : List ℕ) (xs : List Shared) → OnTables spans t u xs → InTheRule nothing (own r xs) → AllFresh (own r xs)
   roads-fresh t u xs O R =
       all-fresh (own r xs) (spans r) nothing (within (spans r) t) (within (spans r) u) tt (run-on-span (own r xs) (spans r) _ _ _ _ (own-run spans apart r xs t u O)) R
+
+-- ---- such lists can be made
+
+-- for every call some answer and some memory after it stand in its contract
+module _ (sheet : List ℕ) (e : ℕ) (o t u : List ℕ) (s : Span) where
+  abbrev Outcome : Kind → Type 0
+  Outcome k = (a : Planned) × (o' : List ℕ) × (t' : List ℕ) × (u' : List ℕ) × Does k (called sheet e o t u s a o' t' u')
+
+  output-then : (a : Planned) → OutputAfter (instance sheet) a o (output-of (instance sheet) a o)
+  output-then (Plan k n) = refl
+  output-then (Refused f n) = refl
+
+  -- one that leaves these rows in front of the span
+  leaving : (f g : List ℕ) → (a : Planned) × (o' : List ℕ) × (t' : List ℕ) × (u' : List ℕ) × Leaves (called sheet e o t u s a o' t' u') f g
+  leaving f g =
+      let I = instance sheet in
+      let a = planned sheet (length o) (length t) (length u) s in
+      (a, output-of I a o, front-after I a s f t, front-after I a s g u, record { answer = refl; output = output-then a; costs-after = refl; choices-after = refl })
+
+  does-possible : (k : Kind) → Outcome k
+  does-possible planning = leaving (replicate (entries (instance sheet)) 0) (replicate (entries (instance sheet)) 0)
+  does-possible keeping = leaving (kept-costs (instance sheet)) (kept-choices (instance sheet))
+  does-possible editing = some-outcome sheet e o t u s
+
+-- so whatever is asked for, some list of calls does it
+pub lists-possible : (spans : Road → Span) (os : List Order) (t u : List ℕ) → (xs : List Shared) × OnTables spans t u xs × (orders xs ≡ os)
+unfolding roads.OnTables roads.orders
+lists-possible spans [] t u = ([], tt, refl)
+lists-possible spans (o ∷ os) t u =
+    let d = does-possible (o .sheet) (o .cabinet) (o .output) t u (spans (o .road)) (o .kind) in
+    let made = called (o .sheet) (o .cabinet) (o .output) t u (spans (o .road)) (d .0) (d .1) (d .2) (d .3) in
+    let rest = lists-possible spans os (d .2) (d .3) in (
+      record { road = o .road; turn = record { kind = o .kind; call = made } } ∷ rest .0,
+      (refl, (refl, refl), d .4, rest .1),
+      ap (λ (ys : List Order). o ∷ ys) (rest .2),
+    )

@@ -63,8 +63,10 @@ pub record RowsStay (d : Call) : Type 0 where
   pub costs-length : length (d .costs') ≡ length (d .costs)
   pub choices-length : length (d .choices') ≡ length (d .choices)
   pub costs : (c x : ℕ) → c < asked d .s → off-path d c → x < 2 ^ asked d .r → stays (d .costs) (d .costs') (entry-place d c x)
-  pub choices : (c x : ℕ) → c < asked d .s → (0 < c → off-path d (asked d .parent c)) → x < 2 ^ asked d .r → stays (d .choices) (d .choices') (entry-place d c x)
-  pub others : (i : ℕ) → (i < d .span .first) ⊎ (d .span .first + entries (asked d) ≤ i) → stays (d .costs) (d .costs') i × stays (d .choices) (d .choices') i
+  pub choices : (c x : ℕ) → c < asked d .s → (0 < c → off-path d (asked d .parent c)) → x < 2 ^ asked d .r
+      → stays (d .choices) (d .choices') (entry-place d c x)
+  pub others : (i : ℕ) → (i < d .span .first) ⊎ (d .span .first + entries (asked d) ≤ i)
+      → stays (d .costs) (d .costs') i × stays (d .choices) (d .choices') i
 
 -- what an edit answers and leaves
 pub record Edits (d : Call) : Type 0 where

@@ -6,7 +6,7 @@ use Prim.Native.Nat.{ℕ}
 use lib.ListN.{length}
 use Rattle.lending.specs.Spans.{runs-past, within}
 use Rattle.lending.specs.declared.Span.{Span}
-use Rattle.edit.specs.Lists.{Does, Turn}
+use Rattle.edit.specs.Lists.{Kind, Does, Turn}
 
 -- the two roads
 pub data Road : Type 0 where
@@ -39,6 +39,20 @@ OnTables spans t u (x ∷ xs) =
     × ((x .turn .call .costs ≡ t) × (x .turn .call .choices ≡ u))
     × Does (x .turn .kind) (x .turn .call)
     × OnTables spans (x .turn .call .costs') (x .turn .call .choices') xs
+
+-- a call as it is asked for: whose it is and which, its sheet, the cabinet of an edit, and what the output holds
+pub record Order : Type 0 where
+  pub road : Road
+  pub kind : Kind
+  pub sheet : List ℕ
+  pub cabinet : ℕ
+  pub output : List ℕ
+
+-- what the calls of a list were asked for
+unfoldable pub orders : List Shared → List Order
+orders [] = []
+orders (x ∷ xs) =
+    record { road = x .road; kind = x .turn .kind; sheet = x .turn .call .sheet; cabinet = x .turn .call .cabinet; output = x .turn .call .output } ∷ orders xs
 
 -- two tables agree on a span: it runs past both or past neither, and they have the same entries in it
 pub record AgreeOn (s : Span) (t t₂ : List ℕ) : Type 0 where

@@ -107,7 +107,7 @@ shorter costs choices n = go (ltb choices costs) refl
 -- on the whole of the shorter table: 10, or 11 where a table is shorter than a plan needs, and never 24
 pub whole-rules : (places entries output costs choices : ℕ)
     → first-applying (lender-rules places entries output costs choices (whole costs choices))
-    ≡ cond (ltb output places) 10 (cond (ltb costs entries || ltb choices entries) 11 0)
+    ≡ first-applying (record { number = 10; applies = ltb output places } ∷ record { number = 11; applies = ltb costs entries || ltb choices entries } ∷ [])
 unfolding first-applying
 whole-rules places entries output costs choices =
     ap (λ (b : Bool). cond (ltb output places) 10 (cond b 24 (cond (ltb (whole costs choices .number) entries) 11 0)))

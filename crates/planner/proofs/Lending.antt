@@ -30,7 +30,7 @@ use Rattle.lending.proofs.Rules.{lender-numbers, lender-listed, room-enough, ro
 use Rattle.planner.specs.declared.Planned.{Planned}
 use Rattle.planner.specs.declared.Planned.the-variants.{Plan, Refused}
 use Rattle.planner.specs.Answers.{entries, solved, lent}
-use Rattle.planner.specs.Lent.{used, part-after, front-after, OutputAfter}
+use Rattle.planner.specs.Lent.{used, front-after, OutputAfter}
 
 -- a row has at most as many entries as there can be sets
 pub sets-le : (I : Instance) → WellFormed I → 2 ^ I .r ≤ 2 ^ max-services

@@ -16,12 +16,13 @@
 --   `Edits`                                 what `edit::edit` answers, and what output and tables hold after it: a relation, as tables from elsewhere leave
 --                                           some of it free                     crates/edit/src/lib.rt
 -- and the C entry points `gz_read`, `gz_check`, `gz_plan`, `gz_keep`, `gz_edit`, `gz_tidy` and `gz_bill` have the same clauses in crates/gazrieksne/src:
--- `gz_plan_span`, `gz_keep_span` and `gz_edit_span` for any span, those without one for `whole`, all of the shorter table. What the program prints is `printed` in crates/report/specs/Text.antt, by the contract of `report::respond`.
+-- `gz_plan_span`, `gz_keep_span` and `gz_edit_span` for any span, those without one for `whole`, all of the shorter table. What the program prints is
+-- `printed` in crates/report/specs/Text.antt, by the contract of `report::respond`.
 use Prim.Native.Nat.{ℕ, _+_, _-_, _*_, _^_, _≤_, _<_}
 use mathlib.Core.Logic.{_↔_, _⊎_, inl, inr}
 use mathlib.Core.Path.{_≡_, refl, ap, _∙_}
-use mathlib.Core.Bool.{true, _&&_, _||_, cond}
-use mathlib.Core.List.{List}
+use mathlib.Core.Bool.{true, _&&_, _||_}
+use mathlib.Core.List.{List, [], _∷_}
 use lib.Dec.{ltb}
 use lib.ListN.{length, take, getD}
 use Rattle.finite.specs.Below.{only, sum-below}
@@ -67,11 +68,11 @@ use Rattle.planner.proofs.Order.{plan-first, plan-order}
 use Rattle.edit.specs.Calls.{Call, called, asked}
 use Rattle.edit.specs.Edits.{rules-before, edit-numbers, number-before, Edits}
 use Rattle.edit.specs.Lists.{Kind, Does, Turn, OnSpan, nothing, InTheRule, AllFresh}
-use Rattle.edit.specs.Roads.{Road, one, other, Shared, own, OnTables, AgreeOn, Alike, Same, AllPairs}
+use Rattle.edit.specs.Roads.{Road, one, other, Shared, own, OnTables, Order, orders, AgreeOn, Alike, Same, AllPairs}
 use Rattle.edit.proofs.Possible.{some-outcome}
 use Rattle.edit.proofs.Lists as lists
 use Rattle.edit.proofs.Roads as both
-use Rattle.edit.proofs.Roads.{same-alone}
+use Rattle.edit.proofs.Roads.{same-alone, lists-possible}
 use Rattle.bill.specs.Tariff.{within-limits}
 use Rattle.bill.specs.Lines.{started, tax-on, line-count, line, net, tax, total}
 use Rattle.bill.specs.Answers as bill
@@ -180,9 +181,8 @@ written-accepted = planning.accepted
 -- ---- Demand 3
 
 -- On every sheet that the reader accepts, with memory enough, so that neither 10 nor 24 nor 11 applies, and whatever it held, the planner gives a plan or
--- 12. With a plan of cost k some
--- mapping that is feasible by Definition 1 and keeps the limits costs k, and no such mapping costs less; with 12 there is no such mapping. In both
--- cases the count is that of the splits weighed, and is at most (s - 1) × 3^r. (`planner::plan`, clause `answer`.)
+-- 12. With a plan of cost k some mapping that is feasible by Definition 1 and keeps the limits costs k, and no such mapping costs less; with 12 there is no
+-- such mapping. In both cases the count is that of the splits weighed, and is at most (s - 1) × 3^r. (`planner::plan`, clause `answer`.)
 pub demand-3 :
     (bytes : List ℕ) (h : Sheet) → reading bytes ≡ readings.Accepted h →
     (output costs choices : ℕ) (span : Span) → Enough (instance bytes) output costs choices span →
@@ -441,8 +441,8 @@ pub edit-possible :
     × Edits (called sheet e output costs choices span a output' costs' choices')
 edit-possible = some-outcome
 
--- Any bytes, any number and any tables, with any memory lent and any span, get a plan or one refusal, from 1 to 12, 14, 18, 19, 23 or 24; it stands in the group of its
--- number, and only 12 has a count. (`edit::edit`.)
+-- Any bytes, any number and any tables, with any memory lent and any span, get a plan or one refusal, from 1 to 12, 14, 18, 19, 23 or 24; it stands in the
+-- group of its number, and only 12 has a count. (`edit::edit`.)
 pub edit-answers :
     (d : Call) → Edits d →
     ((k : ℕ) × (n : ℕ) × (d .answer ≡ Plan k n))
@@ -478,11 +478,15 @@ pub span-measured :
 span-measured I output costs choices span =
     (either-past span costs choices, enough-iff (I .r) (plan.entries I) output costs choices span)
 
--- On the whole of the shorter table, which the calls without a span take, there is no 24, and 11 is given where a table is shorter than s × 2^r entries.
+-- On the whole of the shorter table, which the calls without a span take, the lender's refusals are the two of 01: there is no 24, and 11 is given where a
+-- table is shorter than s × 2^r entries.
 pub whole-measured :
     (I : Instance) (output costs choices : ℕ) →
     first-applying (lender-rules (I .r) (plan.entries I) output costs choices (whole costs choices))
-    ≡ cond (ltb output (I .r)) 10 (cond (ltb costs (plan.entries I) || ltb choices (plan.entries I)) 11 0)
+    ≡ first-applying (
+    record { number = 10; applies = ltb output (I .r) }
+    ∷ record { number = 11; applies = ltb costs (plan.entries I) || ltb choices (plan.entries I) }
+    ∷ [])
 whole-measured I output costs choices = whole-rules (I .r) (plan.entries I) output costs choices
 
 -- No call, of whatever kind and with whatever answer, changes an entry outside its span, or a table's length. (`planner::plan`, `planner::keep`,
@@ -511,3 +515,9 @@ pub roads-fresh :
     (r : Road) (t u : List ℕ) (xs : List Shared) →
     OnTables spans t u xs → InTheRule nothing (own r xs) → AllFresh (own r xs)
 roads-fresh = both.roads-fresh
+
+-- Such lists can be made: whatever calls are asked for, on any spans and tables, some list of calls is what was asked for and meets every contract.
+pub roads-possible :
+    (spans : Road → Span) (os : List Order) (t u : List ℕ) →
+    (xs : List Shared) × OnTables spans t u xs × (orders xs ≡ os)
+roads-possible = lists-possible

@@ -4,7 +4,6 @@ use native.Mathlib.Omega.{arith}
 use mathlib.Core.Logic.{_⊎_, inl, inr}
 use mathlib.Core.Path.{_≡_, refl, sym, ap, _∙_, subst}
 use mathlib.Core.Bool.{true}
-use mathlib.Core.List.{List}
 use lib.ListN.{length, take}
 use Rattle.sheet.specs.Refusals.{one-of, refusal, number-of, giving, first-of, in-order}
 use Rattle.sheet.specs.declared.Refusal.{Refusal}

@@ -49,7 +49,7 @@ use Rattle.planner.proofs.After.{after-used, after-unused, after-length, after-
 use Rattle.edit.proofs.Tables.{kept-after}
 use Rattle.edit.proofs.Lists.{zeros-long, kept-costs-long, kept-choices-long}
 use Rattle.theorems.proofs.Lent.{front-written}
-use Rattle.theorems.specs.Promised.{Given, Best, Stays, Cleared, Written, Left, KeptLeft}
+use Rattle.theorems.specs.Promised.{Given, Best, Stays, Written, Left, KeptLeft}
 
 -- ---- the number of a refusal
 

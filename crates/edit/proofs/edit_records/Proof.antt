@@ -12,7 +12,6 @@ use Rattle.sheet.specs.declared.Refusal.{Refusal}
 use Rattle.sheet.proofs.Promises.{well-formed}
 use Rattle.records.specs.Told.{told}
 use Rattle.lending.specs.Rules.{lender-rules, room}
-use Rattle.lending.specs.declared.Measured.the-variants as measures
 use Rattle.lending.proofs.Rules.{enough-iff, room-enough, room-refused}
 use Rattle.planner.specs.Answers.{entries}
 use Rattle.planner.specs.declared.Planned.the-variants.{Refused}
