@@ -17,7 +17,7 @@ use Rattle.embedding.specs.Plan.{cheapest}
 use Rattle.embedding.specs.Splits.{weighed}
 use Rattle.lending.specs.Spans.{within, Apart}
 use Rattle.lending.specs.declared.Span.{Span}
-use Rattle.lending.proofs.Spans.{within-same}
+use Rattle.lending.proofs.Spans.{within-same, apart-outside}
 use Rattle.lending.proofs.Rules.{enough-iff}
 use Rattle.planner.specs.Answers.{number, entries, Enough, solved}
 use Rattle.planner.specs.Lent.{used, part-after}
@@ -172,13 +172,9 @@ does-outside editing d D i h = go (number-before d) refl h
 pub does-apart : (k : Kind) (d : Call) → Does k d → (other : Span) → Apart other (d .span)
     → (within other (d .costs') ≡ within other (d .costs)) × (within other (d .choices') ≡ within other (d .choices))
 does-apart k d D other h = (
-  within-same other (d .costs) (d .costs') (does-lengths k d D .0) (λ i l m. does-outside k d D i (outside i l m h) .0),
-  within-same other (d .choices) (d .choices') (does-lengths k d D .1) (λ i l m. does-outside k d D i (outside i l m h) .1),
+  within-same other (d .costs) (d .costs') (does-lengths k d D .0) (λ i l m. does-outside k d D i (apart-outside other (d .span) h i (l, m)) .0),
+  within-same other (d .choices) (d .choices') (does-lengths k d D .1) (λ i l m. does-outside k d D i (apart-outside other (d .span) h i (l, m)) .1),
 )
-  where
-    outside : (i : ℕ) → other .first ≤ i → i < other .first + other .number → Apart other (d .span) → (i < d .span .first) ⊎ (d .span .first + d .span .number ≤ i)
-    outside i l m (inl a) = inl (omega arith)
-    outside i l m (inr a) = inr (omega arith)
 
 -- ---- a call that does as a keeping call
 

@@ -1,7 +1,7 @@
 -- The laws of spans: a table with other entries in the span, and two spans that do not overlap.
 use Prim.Native.Nat.{ℕ, _+_, _-_, _≤_, _<_, min}
 use native.Mathlib.Omega.{arith}
-use mathlib.Core.Logic.{inl, inr}
+use mathlib.Core.Logic.{_⊎_, inl, inr}
 use mathlib.Core.Path.{_≡_, refl, sym, ap, _∙_}
 use mathlib.Core.Bool.{Bool, true, false, cond}
 use mathlib.Core.List.{List, _++_, append-assoc}
@@ -11,7 +11,7 @@ use lib.Seq.{getD-take, getD-drop, length-take-le, drop-append-le, ext-getD}
 use borrow.Rule.Slice.PartMut.{put-same, same-len-mid}
 use borrow.Author.Tests.{ltb-true, ltb-false, le-ltb}
 use Rattle.finite.proofs.Middles.{mid-part}
-use Rattle.lending.specs.Spans.{whole, runs-past, within, replaced, Apart}
+use Rattle.lending.specs.Spans.{whole, runs-past, within, replaced, Inside, Apart}
 use Rattle.lending.specs.declared.Span.{Span}
 
 -- ---- the whole of the shorter table runs past neither
@@ -71,5 +71,17 @@ within-same s t t' e h = ext-getD 0 (within s t') (within s t) (long t' ∙ ap (
 -- ---- two spans
 
 pub apart-flip : (a b : Span) → Apart a b → Apart b a
-apart-flip a b (inl h) = inr h
-apart-flip a b (inr h) = inl h
+apart-flip a b h i p q = h i q p
+
+-- where one ends before the other begins they do not overlap, also if they touch
+pub beside-apart : (a b : Span) → a .first + a .number ≤ b .first → Apart a b
+beside-apart a b h i p q = absurd (omega (arith, h, p .1, q .0))
+
+-- an entry of the one is outside the other
+pub apart-outside : (a b : Span) → Apart a b → (i : ℕ) → Inside a i → (i < b .first) ⊎ (b .first + b .number ≤ i)
+apart-outside a b h i p = go (ltb i (b .first)) refl (ltb i (b .first + b .number)) refl
+  where
+    go : (x : Bool) → ltb i (b .first) ≡ x → (y : Bool) → ltb i (b .first + b .number) ≡ y → (i < b .first) ⊎ (b .first + b .number ≤ i)
+    go true e y f = inl (ltb-true i (b .first) e)
+    go false e true f = absurd (h i p (ltb-false i (b .first) e, ltb-true i (b .first + b .number) f))
+    go false e false f = inr (ltb-false i (b .first + b .number) f)

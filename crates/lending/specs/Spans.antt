@@ -1,6 +1,5 @@
 -- 02 (h): the span of both tables that a call may use.
-use Prim.Native.Nat.{ℕ, _+_, _≤_}
-use mathlib.Core.Logic.{_⊎_}
+use Prim.Native.Nat.{ℕ, _+_, _≤_, _<_}
 use mathlib.Core.Bool.{Bool, cond}
 use mathlib.Core.List.{List, _++_}
 use lib.Dec.{ltb}
@@ -27,6 +26,10 @@ within s table = take (s .number) (drop (s .first) table)
 abbrev pub replaced : Span → List ℕ → List ℕ → List ℕ
 replaced s part table = take (s .first) table ++ (part ++ drop (s .number) (drop (s .first) table))
 
--- two spans do not overlap: one ends before the other begins
+-- entry i stands in the span
+abbrev pub Inside : Span → ℕ → Type 0
+Inside s i = (s .first ≤ i) × (i < s .first + s .number)
+
+-- two spans do not overlap: no entry stands in both
 abbrev pub Apart : Span → Span → Type 0
-Apart a b = (a .first + a .number ≤ b .first) ⊎ (b .first + b .number ≤ a .first)
+Apart a b = (i : ℕ) → Inside a i → Inside b i → ⊥

@@ -58,6 +58,7 @@ use Rattle.lending.specs.Spans.{whole, runs-past, Apart}
 use Rattle.lending.specs.Rules.{lender-rules}
 use Rattle.lending.specs.declared.Span.{Span}
 use Rattle.lending.proofs.Rules.{either-past, enough-iff, whole-rules}
+use Rattle.lending.proofs.Spans as spans
 use Rattle.planner.specs.Answers as plan
 use Rattle.planner.specs.Answers.{Enough, planned}
 use Rattle.planner.specs.Lent.{front-after, table-after, OutputAfter}
@@ -495,6 +496,11 @@ pub outside-stays :
     (k : Kind) (d : Call) → Does k d →
     OutsideStays (d .span) (d .costs) (d .costs') × OutsideStays (d .span) (d .choices) (d .choices')
 outside-stays = roads.outside
+
+-- Spans of which one ends before the other begins have no entry in common, also if they touch.
+pub beside-apart :
+    (a b : Span) → a .first + a .number ≤ b .first → Apart a b
+beside-apart = spans.beside-apart
 
 -- For every two lists of calls on one pair of tables each, and two spans that do not overlap, each call on its road's span, with nothing else writing the
 -- tables: if one road's calls are made alike in both, and its edits are in the rule in the first, then its answers, its outputs and the entries of its span
