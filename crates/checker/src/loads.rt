@@ -17,22 +17,13 @@ use records::Records;
 use records::field;
 use records::flows::Flow;
 use records::flows::frames_of;
+use records::is_marked;
 use sheet::Sheet;
 
 // The load of each direction of a link.
 pub struct Loads {
     pub up: u64,
     pub down: u64,
-}
-
-// Whether cabinet d is marked; none past the marks is.
-fn is_marked(marks: &[bool], d: usize) -> bool
-    ensures { λ b. ⌜ b ≡ getD (now (marks .entry)) d false ⌝ }
-{
-    if marks.len() <= d {
-        return false;
-    }
-    marks[d]
 }
 
 // Marks the cabinets under c: c itself, and each one whose parent is marked before it.

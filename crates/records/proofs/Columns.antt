@@ -47,13 +47,13 @@ module _ (places : ℕ) (f : ℕ → ℕ) where
 -- records tell of nothing past their counts
 told-padded : (x : Records) → Padded (told x)
 unfolding told
-told-padded x = records-padded _ _ _ _ _ _ _
+told-padded x = records-padded _ _ _ _ _ _ _ _
 
--- all records loaded, and what is barred
+-- all records loaded, and what is barred, and the joints
 pub loaded : (bytes : List ℕ) (x : Records) → Loading (instance bytes) (instance bytes .r) (instance bytes .s) (instance bytes .q) x
-    → ((i c : ℕ) → told x .barred i c ≡ instance bytes .barred i c) → told x ≡ instance bytes
+    → ((i c : ℕ) → told x .barred i c ≡ instance bytes .barred i c) → ((c : ℕ) → told x .joint c ≡ instance bytes .joint c) → told x ≡ instance bytes
 unfolding told
-loaded bytes x L bars =
+loaded bytes x L bars joints =
     let I = instance bytes in
     let r = L .services in
     let s = L .cabinets in
@@ -75,12 +75,13 @@ loaded bytes x L bars =
       to = column-told max-streams (I .to) (x .streams) (I .q) _ q (L .to);
       load = column-told max-streams (I .load) (x .streams) (I .q) _ q (L .load);
       barred = bars;
+      joint = joints;
     })
     (told-padded x) (padded bytes)
 
--- whatever is barred, the rest stays loaded
-pub with-barred : {I : Instance} {i c j : ℕ} {x : Records} → Loading I i c j x → (sets : List ℕ) → Loading I i c j (barring x sets)
-with-barred L sets =
+-- whatever is barred, and whichever cabinets are joints, the rest stays loaded
+pub with-barred : {I : Instance} {i c j : ℕ} {x : Records} → Loading I i c j x → (sets : List ℕ) (joints : List Bool) → Loading I i c j (barring x sets joints)
+with-barred L sets joints =
     record {
       services = L .services;
       cabinets = L .cabinets;

@@ -1,5 +1,6 @@
 -- The instance that records in arrays tell of, and the records of bytes.
 use mathlib.Core.Path.{_≡_}
+use mathlib.Core.Bool.{false}
 use mathlib.Core.List.{List}
 use Prim.Native.Nat.{ℕ}
 use lib.ListN.{getD, replicate}
@@ -12,7 +13,8 @@ use Rattle.sheet.specs.declared.Refusal.{Refusal}
 use Rattle.sheet.specs.declared.Reading.the-variants.{Accepted, Refused}
 use Rattle.records.specs.declared.Records.{Records}
 
--- the instance of the records; a field of a record that isn't there is 0, and the services barred from a cabinet are the members of its set
+-- the instance of the records; a field of a record that isn't there is 0, the services barred from a cabinet are the members of its set, and a
+-- joint is marked as one, whatever its capacity
 unfoldable pub told : Records → Instance
 told k =
     of-records (k .services) (k .cabinets) (k .streams)
@@ -29,8 +31,9 @@ told k =
     })
     (λ j. record { from = getD (k .from) j 0; to = getD (k .to) j 0; demand = getD (k .load) j 0 })
     (λ i c. has (getD (k .barred) c 0) i)
+    (λ c. getD (k .joint) c false)
 
--- so many services, cabinets and streams, with nothing but zeros in their records
+-- so many services, cabinets and streams, with nothing but zeros in their records, and no joint
 abbrev pub blank : ℕ → ℕ → ℕ → Records
 blank r s q =
     record {
@@ -46,6 +49,7 @@ blank r s q =
       «down_capacity» = replicate max-cabinets 0;
       «down_price» = replicate max-cabinets 0;
       barred = replicate max-cabinets 0;
+      joint = replicate max-cabinets false;
       from = replicate max-streams 0;
       to = replicate max-streams 0;
       load = replicate max-streams 0;

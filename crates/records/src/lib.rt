@@ -1,5 +1,6 @@
 // The records of a sheet in arrays of 16-bit numbers, for check and planner alike.
 ghost use mathlib.Core.Path.{_≡_};
+ghost use mathlib.Core.Bool.{false};
 ghost use lib.Dec.{ltb};
 ghost use lib.ListN.{getD};
 ghost use Rattle.finite.specs.Below.{only};
@@ -22,7 +23,7 @@ use loading::blank_records;
 use loading::load_accepted;
 
 // The records of a road and of a request; fields past the counts mean nothing. The services barred from a cabinet are a set: service i is
-// barred where digit i of the number is 1.
+// barred where digit i of the number is 1. Whether a cabinet is a joint stands apart from its capacity.
 pub struct Records {
     pub services: usize,
     pub cabinets: usize,
@@ -36,6 +37,7 @@ pub struct Records {
     pub down_capacity: [u16; Sheet::MAX_CABINETS],
     pub down_price: [u16; Sheet::MAX_CABINETS],
     pub barred: [u16; Sheet::MAX_CABINETS],
+    pub joint: [bool; Sheet::MAX_CABINETS],
     pub from: [u16; Sheet::MAX_STREAMS],
     pub to: [u16; Sheet::MAX_STREAMS],
     pub load: [u16; Sheet::MAX_STREAMS],
@@ -84,6 +86,16 @@ pub fn is_in_set(sets: &[u16], count: usize, c: usize, i: usize) -> bool
     ensures { λ b. ⌜ b ≡ has (only (ltb c count) (getD (now (sets .entry)) c 0)) i ⌝ }
 {
     member(index(field(sets, count, c)), i)
+}
+
+// Whether number i is marked; none past the marks is.
+pub fn is_marked(marks: &[bool], i: usize) -> bool
+    ensures { λ b. ⌜ b ≡ getD (now (marks .entry)) i false ⌝ }
+{
+    if marks.len() <= i {
+        return false;
+    }
+    marks[i]
 }
 
 fn wide(x: u16) -> u64
@@ -144,5 +156,15 @@ impl Records {
             return false;
         }
         is_in_set(&self.barred, self.cabinets, c, i)
+    }
+
+    // Whether cabinet c is a joint; not where it isn't there.
+    pub fn is_joint(self, c: usize) -> bool
+        ensures { λ b. ⌜ b ≡ told self .joint c ⌝ }
+    {
+        if self.cabinets <= c {
+            return false;
+        }
+        is_marked(&self.joint, c)
     }
 }

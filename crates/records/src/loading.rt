@@ -2,6 +2,7 @@
 ghost use mathlib.Core.Path.{_≡_};
 ghost use Prim.Native.Nat.{_^_, _<_};
 ghost use lib.Bits.{bitOr};
+ghost use Rattle.sheet.specs.Limits.{max-cabinets};
 ghost use Rattle.sheet.specs.Instance.{instance};
 ghost use Rattle.sheet.specs.Reading.{reading};
 ghost use Rattle.sheet.specs.Records.{pair-record};
@@ -9,7 +10,7 @@ ghost use Rattle.sheet.specs.declared.Reading.the-variants.{Accepted};
 ghost use Rattle.sheet.specs.declared.PairRecord.the-variants.{Given};
 ghost use Rattle.sheet.specs.Inner.Fields.{service-of, cabinet-of, stream-of};
 ghost use Rattle.records.specs.Told.{told, blank};
-ghost use Rattle.records.specs.Inner.Loading.{Loading, Barring};
+ghost use Rattle.records.specs.Inner.Loading.{Loading, Barring, Jointed};
 use crate::Records;
 use sheet::Cabinet;
 use sheet::CabinetRecord;
@@ -113,6 +114,7 @@ pub(crate) fn blank_records(services: usize, cabinets: usize, streams: usize) ->
         down_capacity: [0u16; Sheet::MAX_CABINETS],
         down_price: [0u16; Sheet::MAX_CABINETS],
         barred: [0u16; Sheet::MAX_CABINETS],
+        joint: [false; Sheet::MAX_CABINETS],
         from: [0u16; Sheet::MAX_STREAMS],
         to: [0u16; Sheet::MAX_STREAMS],
         load: [0u16; Sheet::MAX_STREAMS],
@@ -197,6 +199,19 @@ fn barred_sets(sheet: Sheet, bytes: &[u8]) -> [u16; Sheet::MAX_CABINETS]
     sets
 }
 
+// Which cabinets are joints: those of capacity 0.
+fn joints(capacity: &[u16; Sheet::MAX_CABINETS]) -> [bool; Sheet::MAX_CABINETS]
+    ensures { λ marks. ⌜ Jointed (now (capacity .entry)) max-cabinets marks ⌝ }
+{
+    let mut marks = [false; Sheet::MAX_CABINETS];
+    let mut c = 0;
+    while c < Sheet::MAX_CABINETS {
+        marks[c] = capacity[c] == 0;
+        c += 1;
+    }
+    marks
+}
+
 // All records of the sheet.
 pub(crate) fn load_accepted(sheet: Sheet, bytes: &[u8]) -> Records
     requires { ⌜ reading (now bytes) ≡ Accepted sheet ⌝ }
@@ -207,6 +222,8 @@ pub(crate) fn load_accepted(sheet: Sheet, bytes: &[u8]) -> Records
     let cabinets = with_cabinets(services, sheet, bytes);
     let mut all = with_streams(cabinets, sheet, bytes);
     let barred = barred_sets(sheet, bytes);
+    let joint = joints(&all.capacity);
     all.barred = barred;
+    all.joint = joint;
     all
 }

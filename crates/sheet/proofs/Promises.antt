@@ -17,8 +17,8 @@ use Rattle.sheet.specs.Conditions.{too-short, beyond-limits, some-block-
 use Rattle.sheet.specs.Refusals.{Rule, first-applying}
 use Rattle.sheet.specs.Reading.{rules, answered, reading}
 use Rattle.sheet.specs.Records.{there, service-record, cabinet-record, stream-record, pair-record, bars}
-use Rattle.sheet.specs.Instance.{WellFormed, names, some-names, instance}
-use Rattle.sheet.specs.Said.{Padded, Said}
+use Rattle.sheet.specs.Instance.{WellFormed, names, some-names, is-joint, instance}
+use Rattle.sheet.specs.Said.{Padded, ByCapacity, Said}
 use Rattle.sheet.specs.declared.Sheet.{Sheet}
 use Rattle.sheet.specs.declared.Cabinet.{Cabinet}
 use Rattle.sheet.specs.declared.Stream.{Stream}
@@ -219,7 +219,16 @@ pub padded : (bytes : List ℕ) → Padded (instance bytes)
 unfolding instance
 padded bytes =
     records-padded _ _ _ (service (header bytes) bytes) (cabinet (header bytes) bytes) (stream (header bytes) bytes)
-    (some-names (header bytes .pairs) (pair (header bytes) bytes))
+    (some-names (header bytes .pairs) (pair (header bytes) bytes)) (λ c. is-joint (cabinet (header bytes) bytes c))
+
+-- and its joints are the cabinets of capacity 0 that are there
+pub joints-by-capacity : (bytes : List ℕ) → ByCapacity (instance bytes)
+unfolding instance is-joint only
+joints-by-capacity bytes c = go (ltb c (header bytes .cabinets))
+  where
+    go : (t : Bool) → t && eqb (cabinet (header bytes) bytes c .capacity) 0 ≡ t && eqb (only t (cabinet (header bytes) bytes c .capacity)) 0
+    go true = refl
+    go false = refl
 
 -- ---- an accepted sheet
 
@@ -360,7 +369,7 @@ module _ (bytes : List ℕ) (h : Sheet) (a : reading bytes ≡ Accepted h) where
 
   -- and that there is nothing in it but its records
   pub said : Said (instance bytes)
-  said = record { padded = padded bytes; root-parent = root-none }
+  said = record { padded = padded bytes; root-parent = root-none; joints = joints-by-capacity bytes }
 
   -- every record that the sheet has is given, with the fields of the instance
   pub service-given :

@@ -1,18 +1,18 @@
--- When two instances are the same: their counts, the fields of the records that are there, and what they bar are; and there is nothing else.
+-- When two instances are the same: their counts, the fields of the records that are there, what they bar and their joints are; and there is nothing else.
 use Prim.Native.Nat.{ℕ, _≤_, _<_}
 use native.Mathlib.Omega.{arith}
-use mathlib.Core.Path.{_≡_, refl, sym, _∙_, fun-ext}
-use mathlib.Core.Bool.{Bool, true, false}
-use lib.Dec.{ltb}
+use mathlib.Core.Path.{_≡_, refl, sym, ap, ap₂, _∙_, fun-ext}
+use mathlib.Core.Bool.{Bool, true, false, _&&_}
+use lib.Dec.{eqb, ltb}
 use borrow.Author.Tests.{ltb-true, ltb-false, le-ltb}
 use Rattle.finite.specs.Below.{only}
 use Rattle.sheet.specs.Instance.{Instance, of-records}
-use Rattle.sheet.specs.Said.{Ends, Padded}
+use Rattle.sheet.specs.Said.{Ends, Padded, ByCapacity}
 use Rattle.sheet.specs.declared.Service.{Service}
 use Rattle.sheet.specs.declared.Cabinet.{Cabinet}
 use Rattle.sheet.specs.declared.Stream.{Stream}
 
--- the same counts, the same fields in every record that is there, and the same barred pairs
+-- the same counts, the same fields in every record that is there, the same barred pairs, and the same joints
 pub record Alike (I J : Instance) : Type 0 where
   pub r : I .r ≡ J .r
   pub s : I .s ≡ J .s
@@ -29,6 +29,7 @@ pub record Alike (I J : Instance) : Type 0 where
   pub to : (j : ℕ) → j < I .q → I .to j ≡ J .to j
   pub load : (j : ℕ) → j < I .q → I .load j ≡ J .load j
   pub barred : (i c : ℕ) → I .barred i c ≡ J .barred i c
+  pub joint : (c : ℕ) → I .joint c ≡ J .joint c
 
 -- two fields that agree below the count and end there
 throughout : (n m : ℕ) (f g : ℕ → ℕ) → n ≡ m → ((d : ℕ) → d < n → f d ≡ g d) → Ends n f → Ends m g → f ≡ g
@@ -56,6 +57,7 @@ same-instance I J A P Q =
     let to = throughout (I .q) (J .q) (I .to) (J .to) q (A .to) (P .to) (Q .to) in
     let load = throughout (I .q) (J .q) (I .load) (J .load) q (A .load) (P .load) (Q .load) in
     let barred = fun-ext (λ i. fun-ext (λ c. A .barred i c)) in
+    let joint = fun-ext (A .joint) in
     λ k. record {
       r = r k;
       s = s k;
@@ -72,7 +74,16 @@ same-instance I J A P Q =
       to = to k;
       load = load k;
       barred = barred k;
+      joint = joint k;
     }
+
+-- two whose joints are told by their capacities have the same joint where they have the same capacity
+pub same-joint : (I J : Instance) → ByCapacity I → ByCapacity J → I .s ≡ J .s → (c : ℕ) → (c < I .s → I .capacity c ≡ J .capacity c) → I .joint c ≡ J .joint c
+same-joint I J B C s c e = B c ∙ go (ltb c (I .s)) refl ∙ sym (C c)
+  where
+    go : (t : Bool) → ltb c (I .s) ≡ t → ltb c (I .s) && eqb (I .capacity c) 0 ≡ ltb c (J .s) && eqb (J .capacity c) 0
+    go true q = ap₂ (λ (n m : ℕ). ltb c n && eqb m 0) s (e (ltb-true c (I .s) q))
+    go false q = ap (λ (t : Bool). t && eqb (I .capacity c) 0) q ∙ sym (ap (λ (t : Bool). t && eqb (J .capacity c) 0) (sym (ap (ltb c) s) ∙ q))
 
 -- ---- instances of records
 
@@ -82,9 +93,9 @@ unfolding only
 past n f d k = rw (le-ltb d n k)
 
 -- an instance that is made of records has nothing else
-pub records-padded : (r s q : ℕ) (service : ℕ → Service) (cabinet : ℕ → Cabinet) (stream : ℕ → Stream) (barred : ℕ → ℕ → Bool)
-    → Padded (of-records r s q service cabinet stream barred)
-records-padded r s q service cabinet stream barred =
+pub records-padded : (r s q : ℕ) (service : ℕ → Service) (cabinet : ℕ → Cabinet) (stream : ℕ → Stream) (barred : ℕ → ℕ → Bool) (joint : ℕ → Bool)
+    → Padded (of-records r s q service cabinet stream barred joint)
+records-padded r s q service cabinet stream barred joint =
     record {
       demand = past _ _;
       parent = past _ _;

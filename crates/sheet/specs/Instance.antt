@@ -33,11 +33,14 @@ pub record Instance : Type 0 where
   pub load : ℕ → ℕ
   -- service i is barred from cabinet c
   pub barred : ℕ → ℕ → Bool
+  -- cabinet c is a joint, without a power box
+  pub joint : ℕ → Bool
 
--- the instance of so many services, cabinets and streams, of each record by its number, and of what is barred; a field of a record that isn't
--- there is 0, and a service that isn't there is barred from nothing, as is any service from a cabinet that isn't there
-abbrev pub of-records : ℕ → ℕ → ℕ → (ℕ → Service) → (ℕ → Cabinet) → (ℕ → Stream) → (ℕ → ℕ → Bool) → Instance
-of-records r s q service cabinet stream barred =
+-- the instance of so many services, cabinets and streams, of each record by its number, of what is barred, and of which cabinets are joints; a
+-- field of a record that isn't there is 0, a service that isn't there is barred from nothing, as is any service from a cabinet that isn't there,
+-- and a cabinet that isn't there is no joint
+abbrev pub of-records : ℕ → ℕ → ℕ → (ℕ → Service) → (ℕ → Cabinet) → (ℕ → Stream) → (ℕ → ℕ → Bool) → (ℕ → Bool) → Instance
+of-records r s q service cabinet stream barred joint =
     record {
       r = r;
       s = s;
@@ -54,6 +57,7 @@ of-records r s q service cabinet stream barred =
       to = λ j. only (ltb j q) (stream j .to);
       load = λ j. only (ltb j q) (stream j .demand);
       barred = λ i c. (ltb i r && ltb c s) && barred i c;
+      joint = λ c. ltb c s && joint c;
     }
 
 -- a pair names service i and cabinet c
@@ -64,12 +68,17 @@ names p i c = eqb (p .service) i && eqb (p .cabinet) c
 unfoldable pub some-names : ℕ → (ℕ → Pair) → ℕ → ℕ → Bool
 some-names n pair i c = any-below n (λ k. names (pair k) i c)
 
--- the instance of a sheet: a service is barred from a cabinet where some pair names both
+-- 02 (i): a cabinet of capacity 0 is a joint
+unfoldable pub is-joint : Cabinet → Bool
+is-joint k = eqb (k .capacity) 0
+
+-- the instance of a sheet: a service is barred from a cabinet where some pair names both, and a cabinet is a joint by its record
 unfoldable pub instance : List ℕ → Instance
 instance bytes =
     of-records (header bytes .services) (header bytes .cabinets) (header bytes .streams)
     (service (header bytes) bytes) (cabinet (header bytes) bytes) (stream (header bytes) bytes)
     (some-names (header bytes .pairs) (pair (header bytes) bytes))
+    (λ c. is-joint (cabinet (header bytes) bytes c))
 
 -- every number of a family is at most 10,000
 abbrev pub Amounts : (ℕ → ℕ) → Type 0

@@ -1,6 +1,8 @@
 -- What the instance of an accepted sheet is beyond well-formed: it has nothing but the sheet's records. Calls that write a sheet rely on it.
 use Prim.Native.Nat.{ℕ, _≤_}
 use mathlib.Core.Path.{_≡_}
+use mathlib.Core.Bool.{_&&_}
+use lib.Dec.{eqb, ltb}
 use Rattle.sheet.specs.Instance.{Instance}
 
 -- a field that is 0 from number n on
@@ -21,7 +23,12 @@ pub record Padded (I : Instance) : Type 0 where
   pub to : Ends (I .q) (I .to)
   pub load : Ends (I .q) (I .load)
 
--- and the root's parent is the number that says that it has none
+-- the joints are the cabinets of capacity 0 that are there
+abbrev pub ByCapacity : Instance → Type 0
+ByCapacity I = (c : ℕ) → I .joint c ≡ ltb c (I .s) && eqb (I .capacity c) 0
+
+-- both, and the root's parent is the number that says that it has none
 pub record Said (I : Instance) : Type 0 where
   pub padded : Padded I
   pub root-parent : I .parent 0 ≡ 65535
+  pub joints : ByCapacity I

@@ -25,8 +25,8 @@ use Rattle.sheet.specs.declared.CabinetRecord.the-variants as cabinets
 use Rattle.sheet.specs.declared.StreamRecord.the-variants as streams
 use Rattle.sheet.specs.declared.Reading.the-variants.{Accepted}
 use Rattle.sheet.proofs.Given.{same-service, same-cabinet, same-stream}
-use Rattle.sheet.proofs.Promises.{counts, padded, service-given, cabinet-given, stream-given, barred-pairs}
-use Rattle.sheet.proofs.Same.{Alike, same-instance}
+use Rattle.sheet.proofs.Promises.{counts, padded, joints-by-capacity, service-given, cabinet-given, stream-given, barred-pairs}
+use Rattle.sheet.proofs.Same.{Alike, same-instance, same-joint}
 use Rattle.tidy.specs.Agree.{Named, Agree}
 
 -- ---- of one sheet
@@ -123,6 +123,9 @@ module _
             to = λ j l. ap (λ (x : Stream). x .to) (stream-same j l);
             load = λ j l. ap (λ (x : Stream). x .demand) (stream-same j l);
             barred = barred-same;
+            joint =
+                λ c. same-joint I J (joints-by-capacity bytes) (joints-by-capacity others) s-same c
+                (λ l. ap (λ (x : Cabinet). x .capacity) (cabinet-same c l));
           }
 
     -- ---- whose instances are the same

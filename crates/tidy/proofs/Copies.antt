@@ -1,12 +1,13 @@
 -- The instance of a tidy copy is the one copied.
 use Prim.Native.Nat.{ℕ, _<_}
-use mathlib.Core.Path.{_≡_, refl, ap, _∙_}
-use mathlib.Core.Bool.{Bool, _&&_}
-use lib.Dec.{ltb}
+use mathlib.Core.Path.{_≡_, refl, sym, ap, _∙_}
+use mathlib.Core.Bool.{Bool, true, false, _&&_}
+use lib.Dec.{eqb, ltb}
+use borrow.Author.Tests.{ltb-true}
 use Rattle.finite.specs.Below.{only}
 use Rattle.sheet.specs.Layout.{service, cabinet, stream, pair}
-use Rattle.sheet.specs.Instance.{Instance, WellFormed, some-names, instance}
-use Rattle.sheet.specs.Said.{Said}
+use Rattle.sheet.specs.Instance.{Instance, WellFormed, some-names, is-joint, instance}
+use Rattle.sheet.specs.Said.{ByCapacity, Said}
 use Rattle.sheet.specs.declared.Service.{Service}
 use Rattle.sheet.specs.declared.Cabinet.{Cabinet}
 use Rattle.sheet.specs.declared.Stream.{Stream}
@@ -34,9 +35,18 @@ module _ (I : Instance) (W : WellFormed I) where
   bars : (i c : ℕ) → (ltb i (I .r) && ltb c (I .s)) && some-names (pair-count I) (pair (tidy-sheet I) (tidied I)) i c ≡ I .barred i c
   bars i c = ap (λ (t : Bool). (ltb i (I .r) && ltb c (I .s)) && t) (named i c) ∙ only-there i c (I .r) (I .s) (I .barred i c) (W .bars i c)
 
-  alike : Alike (instance (tidied I)) I
+  -- and its cabinets of capacity 0 are the joints
+  joints : ByCapacity I → (c : ℕ) → ltb c (I .s) && is-joint (cab c) ≡ I .joint c
+  unfolding is-joint
+  joints B c = go (ltb c (I .s)) refl ∙ sym (B c)
+    where
+      go : (t : Bool) → ltb c (I .s) ≡ t → t && eqb (cab c .capacity) 0 ≡ t && eqb (I .capacity c) 0
+      go true e = ap (λ (x : Cabinet). eqb (x .capacity) 0) (cabinet-read I c (ltb-true c (I .s) e))
+      go false e = refl
+
+  alike : ByCapacity I → Alike (instance (tidied I)) I
   unfolding instance
-  alike =
+  alike B =
       rw header-read
       (record {
         r = refl;
@@ -54,8 +64,9 @@ module _ (I : Instance) (W : WellFormed I) where
         to = λ j k. below (I .q) (λ d. str d .to) j _ k (ap (λ (x : Stream). x .to) (stream-read I j k));
         load = λ j k. below (I .q) (λ d. str d .demand) j _ k (ap (λ (x : Stream). x .demand) (stream-read I j k));
         barred = bars;
+        joint = joints B;
       })
 
   -- where it has nothing but its records
   pub same-copy : Said I → instance (tidied I) ≡ I
-  same-copy S = same-instance (instance (tidied I)) I alike (padded (tidied I)) (S .padded)
+  same-copy S = same-instance (instance (tidied I)) I (alike (S .joints)) (padded (tidied I)) (S .padded)

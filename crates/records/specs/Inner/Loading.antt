@@ -1,7 +1,9 @@
 -- The records of a sheet while they are loaded.
 use Prim.Native.Nat.{ℕ, _<_}
 use mathlib.Core.Path.{_≡_}
+use mathlib.Core.Bool.{Bool, false}
 use mathlib.Core.List.{List}
+use lib.Dec.{eqb}
 use lib.ListN.{length, getD}
 use Rattle.finite.specs.Below.{any-below}
 use Rattle.subsets.specs.Sets.{has}
@@ -16,7 +18,7 @@ pub record Column (places n : ℕ) (f : ℕ → ℕ) (l : List ℕ) : Type 0 whe
   pub size : length l ≡ places
   pub first : (k : ℕ) → k < n → getD l k 0 ≡ f k
 
--- the records of an instance while they are loaded: i services, c cabinets and j streams are there; of barred services nothing is said
+-- the records of an instance while they are loaded: i services, c cabinets and j streams are there; of barred services and joints nothing is said
 pub record Loading (I : Instance) (i c j : ℕ) (x : Records) : Type 0 where
   pub services : x .services ≡ I .r
   pub cabinets : x .cabinets ≡ I .s
@@ -33,9 +35,9 @@ pub record Loading (I : Instance) (i c j : ℕ) (x : Records) : Type 0 where
   pub to : Column max-streams j (I .to) (x .to)
   pub load : Column max-streams j (I .load) (x .load)
 
--- records with other sets of barred services
-abbrev pub barring : Records → List ℕ → Records
-barring k sets =
+-- records with other sets of barred services, and other joints
+abbrev pub barring : Records → List ℕ → List Bool → Records
+barring k sets joints =
     record {
       services = k .services;
       cabinets = k .cabinets;
@@ -49,6 +51,7 @@ barring k sets =
       «down_capacity» = k .«down_capacity»;
       «down_price» = k .«down_price»;
       barred = sets;
+      joint = joints;
       from = k .from;
       to = k .to;
       load = k .load;
@@ -58,3 +61,8 @@ barring k sets =
 pub record Barring (h : Sheet) (bytes : List ℕ) (n : ℕ) (sets : List ℕ) : Type 0 where
   pub size : length sets ≡ max-cabinets
   pub members : (i c : ℕ) → has (getD sets c 0) i ≡ any-below n (λ k. bars (pair-record h bytes k) i c)
+
+-- the marks of the joints once n cabinets were seen: a joint has capacity 0
+pub record Jointed (capacity : List ℕ) (n : ℕ) (marks : List Bool) : Type 0 where
+  pub size : length marks ≡ max-cabinets
+  pub marked : (c : ℕ) → c < n → getD marks c false ≡ eqb (getD capacity c 0) 0

@@ -1,10 +1,11 @@
--- `load_accepted` meets its contract: nothing, then the services, the cabinets, the streams and what is barred are loaded.
+-- `load_accepted` meets its contract: nothing, then the services, the cabinets, the streams, what is barred and the joints are loaded.
 use borrow.Author.Needs.{needs}
 use mathlib.Core.Path.{_∙_}
 use Rattle.sheet.specs.Instance.{instance}
 use Rattle.sheet.proofs.Promises as promises
 use Rattle.records.proofs.Columns.{none-loaded, with-barred, loaded}
 use Rattle.records.proofs.Bars.{all-barred}
+use Rattle.records.proofs.Joints.{all-jointed}
 use Rattle.records.proofs.loading.load_accepted.Statement.{statement}
 use Rattle.records.proofs.loading.load_accepted.Tie as tie
 
@@ -15,8 +16,14 @@ cabinets-before-blank-records c = c .before .before
 abbrev services-before-blank-records : tie.After-blank-records → tie.After-services
 services-before-blank-records c = c .before .before .before
 
-abbrev start-before-barred-sets : tie.After-barred-sets → tie.Start
-start-before-barred-sets c = c .before .before .before .before .before .before .before .before .before
+abbrev start-before-joints : tie.After-joints → tie.Start
+start-before-joints c = c .before .before .before .before .before .before .before .before .before .before .before .before
+
+abbrev barred-sets-before-joints : tie.After-joints → tie.After-barred-sets
+barred-sets-before-joints c = c .before .before .before
+
+abbrev with-streams-before-joints : tie.After-joints → tie.After-with-streams
+with-streams-before-joints c = c .before .before .before .before
 
 services-requires : tie.Need-services-requires
 services-requires c κs = search needs
@@ -48,11 +55,16 @@ with-streams-requires c κs = search needs
 barred-sets-requires : tie.Need-barred-sets-requires
 barred-sets-requires c κs = search needs
 
+joints-requires : tie.Need-joints-requires
+joints-requires c κs = search needs
+
 returns : tie.Need-returns
 returns c =
-    let s = start-before-barred-sets c in
-    let L = c .before .with-streams .ensures in
-    loaded (s .args .bytes .now) _ (with-barred L _) (all-barred (s .args .bytes .now) (s .args .sheet) (s .pre) _ (L .services) (L .cabinets) (c .barred-sets .ensures))
+    let s = start-before-joints c in
+    let L = with-barred (with-streams-before-joints c .with-streams .ensures) (barred-sets-before-joints c .barred-sets .result) (c .joints .result) in
+    loaded (s .args .bytes .now) _ L
+    (all-barred (s .args .bytes .now) (s .args .sheet) (s .pre) _ (L .services) (L .cabinets) (barred-sets-before-joints c .barred-sets .ensures))
+    (all-jointed (s .args .bytes .now) (s .args .sheet) (s .pre) _ _ _ L (c .joints .ensures))
 
 pub load-accepted-spec : {M : Type 1} → statement M
 load-accepted-spec =
@@ -66,4 +78,5 @@ load-accepted-spec =
     with-cabinets-requires
     with-streams-requires
     barred-sets-requires
+    joints-requires
     returns)

@@ -3,8 +3,8 @@ use mathlib.Core.Path.{sym}
 use borrow.Author.Needs.{needs}
 use mathlib.Core.Bool.{false}
 use lib.ListN.{List·getD-eq-default}
-use Rattle.checker.proofs.loads.is_marked.Statement.{statement}
-use Rattle.checker.proofs.loads.is_marked.Tie as tie
+use Rattle.records.proofs.is_marked.Statement.{statement}
+use Rattle.records.proofs.is_marked.Tie as tie
 
 returns : tie.Need-returns
 returns c = sym (List·getD-eq-default (c .before .args .marks .now) false (search needs))
