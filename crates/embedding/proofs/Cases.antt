@@ -1,4 +1,4 @@
--- Small roads, by computation: 02's barred pairs, the first of the cheapest plans, 02's framing, what 01's measured roads leave open, and that the theorems have instances.
+-- Small roads, by computation: 02's barred pairs, the first of the cheapest plans, 02's joints and framing, what 01's measured roads leave open, and that the theorems have instances.
 use Prim.Native.Nat.{ℕ, zero, suc, _≤_, _<_}
 use native.Mathlib.Omega.{arith}
 use mathlib.Core.Bool.{Bool, true, false, _&&_}
@@ -19,7 +19,7 @@ use Rattle.sheet.specs.Instance.{Instance, Amounts, WellFormed}
 use Rattle.embedding.specs.Definition1.{member, Feasible, cost}
 use Rattle.embedding.specs.Limits.{frames, weight, Limits}
 use Rattle.embedding.specs.Road.{up, down, lower, by-way, edge-price, road}
-use Rattle.embedding.specs.Plan.{place, path-within, path, routes, demand-of, fits, unbarred, admits, link-fits, fee, toll, carried, link-keeps, in-range, bars-keep, cabinets-keep, links-keep, valid, cabinets-cost, links-cost, plan-cost, digit, worth, cheapest}
+use Rattle.embedding.specs.Plan.{place, path-within, path, routes, demand-of, fits, unbarred, powered, admits, link-fits, fee, toll, carried, link-keeps, in-range, bars-keep, rooms-keep, joints-keep, cabinets-keep, links-keep, valid, cabinets-cost, links-cost, plan-cost, digit, worth, cheapest}
 use Rattle.embedding.specs.First.{nth-plan, first-from, equals, places, is-cheapest, first-number, first-plan}
 use Rattle.embedding.specs.Splits.{stands, keeps, placeable, weighed}
 use Rattle.embedding.specs.Inner.Charge.{leaving, entering, cabinet-charge, link-charge, net}
@@ -29,7 +29,7 @@ use Rattle.embedding.proofs.Mappings.{plan-iff-mapping}
 abbrev field : List (List ℕ) → ℕ → ℕ → ℕ
 field l k n = getD (getD l n []) k 0
 
--- the instance with these services, cabinets and streams, and with these services barred from these cabinets
+-- the instance with these services, cabinets and streams, and with these services barred from these cabinets; a cabinet of capacity 0 is a joint
 abbrev barring : List (List ℕ) → List (List ℕ) → List (List ℕ) → (ℕ → ℕ → Bool) → Instance
 barring d c s b = record {
   r = length d;
@@ -47,6 +47,7 @@ barring d c s b = record {
   to = field s 1;
   load = field s 2;
   barred = b;
+  joint = λ n. ltb n (length c) && eqb (field c 1 n) 0;
 }
 
 -- the instance with these services, cabinets and streams, and with nothing barred
@@ -84,12 +85,12 @@ measured I = (cheapest I, weighed I)
 
 -- 15 and 15 where one cabinet is barred; no plan and 12 where every one is
 measures-barred : measured M-one ∷ measured M-every ∷ [] ≡ (some 15, 15) ∷ (none, 12) ∷ []
-unfolding worth cheapest lesser least-below digit _⇒_ only sum-below all-below any-below sum-over member up down lower by-way edge-price path-within path routes demand-of fits unbarred admits fee frames weight carried link-fits link-keeps in-range bars-keep cabinets-keep links-keep valid cabinets-cost links-cost plan-cost provided has subset climb under part stands keeps placeable weighed
+unfolding worth cheapest lesser least-below digit _⇒_ only sum-below all-below any-below sum-over member up down lower by-way edge-price path-within path routes demand-of fits unbarred powered admits fee frames weight carried link-fits link-keeps in-range bars-keep rooms-keep joints-keep cabinets-keep links-keep valid cabinets-cost links-cost plan-cost provided has subset climb under part stands keeps placeable weighed
 measures-barred = refl
 
 -- where cabinet 0 is barred the plan (1,2) is valid at 15, and (0,1) is not valid
 plans-barred : worth M-one (place (1 ∷ 2 ∷ [])) ∷ worth M-one (place (0 ∷ 1 ∷ [])) ∷ [] ≡ some 15 ∷ none ∷ []
-unfolding worth _⇒_ only sum-below all-below sum-over member up down lower by-way edge-price path-within path routes demand-of fits fee frames weight carried link-fits link-keeps in-range bars-keep cabinets-keep links-keep valid cabinets-cost links-cost plan-cost provided
+unfolding worth _⇒_ only sum-below all-below sum-over member up down lower by-way edge-price path-within path routes demand-of fits fee frames weight carried link-fits link-keeps in-range bars-keep rooms-keep joints-keep cabinets-keep links-keep valid cabinets-cost links-cost plan-cost provided
 plans-barred = refl
 
 -- and no mapping over (0,1) keeps the limits
@@ -98,7 +99,7 @@ limits-barred ρ L = clash (L .bars 0 (omega arith))
 
 -- ---- the first of the cheapest
 
--- M0: M with no room on the root
+-- M0: M with a joint as its root
 abbrev M0 : Instance
 M0 = instance ((2 ∷ []) ∷ (2 ∷ []) ∷ []) (rooted 0) ((0 ∷ 1 ∷ 3 ∷ []) ∷ [])
 
@@ -116,13 +117,37 @@ first-of I = places (I .r) (first-plan I)
 
 -- (0,1) on M, where (1,2) costs the same; (1,2) on M0; the lower cabinet for service 0, not for service 1; and (1,2) on M where service 0 is barred from cabinet 0
 firsts : first-of M ∷ first-of M0 ∷ first-of either-way ∷ first-of M-one ∷ [] ≡ (0 ∷ 1 ∷ []) ∷ (1 ∷ 2 ∷ []) ∷ (0 ∷ 1 ∷ []) ∷ (1 ∷ 2 ∷ []) ∷ []
-unfolding first-plan first-number first-from nth-plan equals places is-cheapest worth cheapest lesser least-below digit _⇒_ only sum-below all-below sum-over member up down lower by-way edge-price path-within path routes demand-of fits fee frames weight carried link-fits link-keeps in-range bars-keep cabinets-keep links-keep valid cabinets-cost links-cost plan-cost provided
+unfolding first-plan first-number first-from nth-plan equals places is-cheapest worth cheapest lesser least-below digit _⇒_ only sum-below all-below sum-over member up down lower by-way edge-price path-within path routes demand-of fits fee frames weight carried link-fits link-keeps in-range bars-keep rooms-keep joints-keep cabinets-keep links-keep valid cabinets-cost links-cost plan-cost provided
 firsts = refl
 
--- (1,2,0) on Z
-first-of-Z : first-of Z ≡ 1 ∷ 2 ∷ 0 ∷ []
-unfolding first-plan first-number first-from nth-plan equals places is-cheapest worth cheapest lesser least-below digit _⇒_ only sum-below all-below sum-over member up down lower by-way edge-price path-within path routes demand-of fits fee frames weight carried link-fits link-keeps in-range bars-keep cabinets-keep links-keep valid cabinets-cost links-cost plan-cost provided
+-- (1,2,1) on Z
+first-of-Z : first-of Z ≡ 1 ∷ 2 ∷ 1 ∷ []
+unfolding first-plan first-number first-from nth-plan equals places is-cheapest worth cheapest lesser least-below digit _⇒_ only sum-below all-below sum-over member up down lower by-way edge-price path-within path routes demand-of fits fee frames weight carried link-fits link-keeps in-range bars-keep rooms-keep joints-keep cabinets-keep links-keep valid cabinets-cost links-cost plan-cost provided
 first-of-Z = refl
+
+-- ---- joints
+
+-- Z: 15 and 28
+measures-Z : measured Z ≡ (some 15, 28)
+unfolding worth cheapest lesser least-below digit _⇒_ only sum-below all-below any-below sum-over member up down lower by-way edge-price path-within path routes demand-of fits unbarred powered admits fee frames weight carried link-fits link-keeps in-range bars-keep rooms-keep joints-keep cabinets-keep links-keep valid cabinets-cost links-cost plan-cost provided has subset climb under part stands keeps placeable weighed
+measures-Z = refl
+
+-- (1,2,1) is valid at 15; (1,2,0) has the service of demand 0 on the root, a joint, and is not valid
+plans-Z : worth Z (place (1 ∷ 2 ∷ 1 ∷ [])) ∷ worth Z (place (1 ∷ 2 ∷ 0 ∷ [])) ∷ [] ≡ some 15 ∷ none ∷ []
+unfolding worth _⇒_ only sum-below all-below sum-over member up down lower by-way edge-price path-within path routes demand-of fits fee frames weight carried link-fits link-keeps in-range bars-keep rooms-keep joints-keep cabinets-keep links-keep valid cabinets-cost links-cost plan-cost provided
+plans-Z = refl
+
+-- and no mapping over (1,2,0) keeps the limits
+limits-Z : (ρ : ℕ → List ℕ) → Limits Z (place (1 ∷ 2 ∷ 0 ∷ [])) ρ → ⊥
+limits-Z ρ L = clash (L .joints 2 (omega arith))
+
+-- two joints, and a service of demand 0: no plan, but the empty set can be placed on the root
+abbrev joints-only : Instance
+joints-only = instance ((0 ∷ []) ∷ []) ((65535 ∷ 0 ∷ 0 ∷ 0 ∷ 0 ∷ 0 ∷ 0 ∷ []) ∷ (0 ∷ 0 ∷ 0 ∷ 0 ∷ 0 ∷ 0 ∷ 0 ∷ []) ∷ []) []
+
+measures-joints : measured joints-only ≡ (none, 2)
+unfolding worth cheapest lesser least-below digit _⇒_ only sum-below all-below any-below sum-over member up down lower by-way edge-price path-within path routes demand-of fits unbarred powered admits fee frames weight carried link-fits link-keeps in-range bars-keep rooms-keep joints-keep cabinets-keep links-keep valid cabinets-cost links-cost plan-cost provided has subset climb under part stands keeps placeable weighed
+measures-joints = refl
 
 -- ---- framing
 
@@ -167,12 +192,12 @@ late-child =
     ((65535 ∷ 0 ∷ 0 ∷ 0 ∷ 0 ∷ 0 ∷ 0 ∷ []) ∷ (0 ∷ 0 ∷ 0 ∷ 0 ∷ 0 ∷ 0 ∷ 0 ∷ []) ∷ (0 ∷ 0 ∷ 0 ∷ 0 ∷ 0 ∷ 0 ∷ 0 ∷ []) ∷ (1 ∷ 3 ∷ 0 ∷ 0 ∷ 0 ∷ 0 ∷ 0 ∷ []) ∷ []) []
 
 part-has-descendants : placeable late-child 2 1 ≡ true
-unfolding digit _⇒_ only sum-below all-below any-below member up down path-within path routes demand-of fits unbarred admits frames weight carried link-fits link-keeps has climb under part stands keeps placeable
+unfolding digit _⇒_ only sum-below all-below any-below member up down path-within path routes demand-of fits unbarred powered admits frames weight carried link-fits link-keeps has climb under part stands keeps placeable
 part-has-descendants = refl
 
 -- the charges of the plans (0,1), (1,0) and (2,0) for M
 charges-of-M : charge (net M) (λ d. true) 0 3 (place (0 ∷ 1 ∷ [])) ∷ charge (net M) (λ d. true) 0 3 (place (1 ∷ 0 ∷ [])) ∷ charge (net M) (λ d. true) 0 3 (place (2 ∷ 0 ∷ [])) ∷ [] ≡ some 15 ∷ some 18 ∷ none ∷ []
-unfolding _⇒_ only sum-below all-below _⊕_ charged provided total-below has keep climb under nets.charge demand-of fits unbarred admits fee toll frames weight leaving entering link-fits cabinet-charge link-charge
+unfolding _⇒_ only sum-below all-below _⊕_ charged provided total-below has keep climb under nets.charge demand-of fits unbarred powered admits fee toll frames weight leaving entering link-fits cabinet-charge link-charge
 charges-of-M = refl
 
 -- ---- the theorems have instances: M is well formed, so by Definition 1 the plan (1,0) has a feasible mapping of cost 18, and (2,0) has none
@@ -221,9 +246,9 @@ M-well-formed = record {
     only-stream (suc j) k = absurd (omega arith)
 
 feasible-on-M : (ρ : ℕ → List ℕ) × Feasible (road M) (place (1 ∷ 0 ∷ [])) ρ × Limits M (place (1 ∷ 0 ∷ [])) ρ × (cost (road M) (place (1 ∷ 0 ∷ [])) ρ ≡ 18)
-unfolding _⇒_ only sum-below all-below sum-over member up down lower by-way edge-price path-within path routes demand-of fits fee frames weight carried link-fits link-keeps in-range bars-keep cabinets-keep links-keep valid cabinets-cost links-cost plan-cost
+unfolding _⇒_ only sum-below all-below sum-over member up down lower by-way edge-price path-within path routes demand-of fits fee frames weight carried link-fits link-keeps in-range bars-keep rooms-keep joints-keep cabinets-keep links-keep valid cabinets-cost links-cost plan-cost
 feasible-on-M = plan-iff-mapping M M-well-formed (place (1 ∷ 0 ∷ [])) 18 .0 (refl, refl)
 
 none-on-M : (ρ : ℕ → List ℕ) → Feasible (road M) (place (2 ∷ 0 ∷ [])) ρ → Limits M (place (2 ∷ 0 ∷ [])) ρ → ⊥
-unfolding _⇒_ only sum-below all-below member up down path-within path routes demand-of fits frames weight carried link-fits link-keeps in-range bars-keep cabinets-keep links-keep valid
+unfolding _⇒_ only sum-below all-below member up down path-within path routes demand-of fits frames weight carried link-fits link-keeps in-range bars-keep rooms-keep joints-keep cabinets-keep links-keep valid
 none-on-M ρ F L = clash (sym (plan-iff-mapping M M-well-formed (place (2 ∷ 0 ∷ [])) (cost (road M) (place (2 ∷ 0 ∷ [])) ρ) .1 (ρ, F, L, refl) .0))

@@ -1,4 +1,4 @@
--- The charges of cabinets and links, summed over a part of the tree, are a number exactly when the placing uses no barred pair and keeps the part's capacities. Over the whole tree and for all services that number is the plan's cost.
+-- The charges of cabinets and links, summed over a part of the tree, are a number exactly when the placing uses no barred pair and no joint and keeps the part's capacities. Over the whole tree and for all services that number is the plan's cost.
 use Prim.Native.Nat.{ℕ, zero, suc, _+_, _≤_, _<_}
 use native.Mathlib.Omega.{arith}
 use mathlib.Core.Logic.{_≢_, _↔_}
@@ -20,7 +20,7 @@ use Rattle.subsets.specs.Inner.Net.{on, below, charge, Sits}
 use Rattle.subsets.proofs.Tree.{under-small}
 use Rattle.sheet.specs.Instance.{Instance, WellFormed}
 use Rattle.embedding.specs.Limits.{weight}
-use Rattle.embedding.specs.Plan.{fits, unbarred, admits, link-fits, fee, toll, link-keeps, in-range, bars-keep, cabinets-keep, links-keep, valid, cabinets-cost, plan-cost, worth}
+use Rattle.embedding.specs.Plan.{fits, unbarred, powered, admits, link-fits, fee, toll, link-keeps, in-range, bars-keep, rooms-keep, joints-keep, cabinets-keep, links-keep, valid, cabinets-cost, plan-cost, worth}
 use Rattle.embedding.specs.Splits.{stands, keeps}
 use Rattle.embedding.specs.Inner.Charge.{cabinet-charge, link-charge, net}
 use Rattle.subsets.proofs.Sets.{has-keep, has-full}
@@ -140,7 +140,7 @@ module _ (I : Instance) (W : WellFormed I) (T : ℕ → Bool) (v : ℕ) (P : Par
     sits-test = all-in (I .r) (λ i. has x i ⇒ T (π i) && ltb (π i) (I .s)) (λ i k.
         implies (has x i) (T (π i) && ltb (π i) (I .s)) (λ e. both _ _ (sits i k e .0) (lt-ltb (π i) (I .s) (sits i k e .1))))
 
-    -- the charge of a placing on a part is its cost there if it uses no barred pair and keeps the capacities, else none
+    -- the charge of a placing on a part is its cost there if it uses no barred pair and no joint and keeps the capacities, else none
     pub part-charges : charge (net I) T v x π ≡ provided (keeps I T v x π) (part-cost I T v x π)
     unfolding nets.charge keeps part-cost Sat
     part-charges =
@@ -162,28 +162,45 @@ module _ (I : Instance) (W : WellFormed I) (π : ℕ → ℕ) (placed : InRange 
   on-all : (c i : ℕ) → i < I .r → has (full (I .r)) i && eqb (π i) c ≡ eqb (π i) c
   on-all c i k = ap (λ (t : Bool). t && eqb (π i) c) (has-full (I .r) i k)
 
-  -- no cabinet holds a service that is barred from it exactly when no service is barred from its cabinet
+  -- no cabinet holds a service that is wrong there exactly when no service is wrong on its cabinet
+  by-services : (wrong : ℕ → ℕ → Bool)
+      → all-below (I .s) (λ c. all-below (I .r) (λ i. eqb (π i) c ⇒ not (wrong i c))) ≡ all-below (I .r) (λ i. not (wrong i (π i)))
+  by-services wrong =
+      same-test (all-below (I .s) (λ c. all-below (I .r) (λ i. eqb (π i) c ⇒ not (wrong i c)))) (all-below (I .r) (λ i. not (wrong i (π i))))
+      (λ h. all-in (I .r) (λ i. not (wrong i (π i))) (λ i k.
+      implied (eqb (π i) (π i)) (not (wrong i (π i)))
+      (all-at (I .r) (λ j. eqb (π j) (π i) ⇒ not (wrong j (π i)))
+      (all-at (I .s) (λ c. all-below (I .r) (λ j. eqb (π j) c ⇒ not (wrong j c))) h (π i) (placed i k)) i k)
+      (eq-eqb (π i) (π i) refl)))
+      (λ h. all-in (I .s) (λ c. all-below (I .r) (λ i. eqb (π i) c ⇒ not (wrong i c))) (λ c _.
+      all-in (I .r) (λ i. eqb (π i) c ⇒ not (wrong i c)) (λ i k.
+      implies (eqb (π i) c) (not (wrong i c)) (λ e.
+      ap (λ (z : ℕ). not (wrong i z)) (sym (eqb-true (π i) c e)) ∙ all-at (I .r) (λ i. not (wrong i (π i))) h i k))))
+
+  -- so with the bars
   unbarred-all : all-below (I .s) (λ c. unbarred I c (λ i. eqb (π i) c)) ≡ bars-keep I π
   unfolding unbarred bars-keep
-  unbarred-all =
-      same-test (all-below (I .s) (λ c. all-below (I .r) (λ i. eqb (π i) c ⇒ not (I .barred i c)))) (all-below (I .r) (λ i. not (I .barred i (π i))))
-      (λ h. all-in (I .r) (λ i. not (I .barred i (π i))) (λ i k.
-      implied (eqb (π i) (π i)) (not (I .barred i (π i)))
-      (all-at (I .r) (λ j. eqb (π j) (π i) ⇒ not (I .barred j (π i)))
-      (all-at (I .s) (λ c. all-below (I .r) (λ j. eqb (π j) c ⇒ not (I .barred j c))) h (π i) (placed i k)) i k)
-      (eq-eqb (π i) (π i) refl)))
-      (λ h. all-in (I .s) (λ c. all-below (I .r) (λ i. eqb (π i) c ⇒ not (I .barred i c))) (λ c _.
-      all-in (I .r) (λ i. eqb (π i) c ⇒ not (I .barred i c)) (λ i k.
-      implies (eqb (π i) c) (not (I .barred i c)) (λ e.
-      ap (λ (z : ℕ). not (I .barred i z)) (sym (eqb-true (π i) c e)) ∙ all-at (I .r) (λ i. not (I .barred i (π i))) h i k))))
+  unbarred-all = by-services (I .barred)
 
-  -- every cabinet admits what a plan puts there exactly when the plan uses no barred pair and no cabinet is overfull
+  -- and with the joints
+  powered-all : all-below (I .s) (λ c. powered I c (λ i. eqb (π i) c)) ≡ joints-keep I π
+  unfolding powered joints-keep
+  powered-all = by-services (λ i c. I .joint c)
+
+  -- every cabinet has room and power for what a plan puts there exactly when the plan passes the test of the cabinets
+  houses-all : all-below (I .s) (λ c. fits I c (λ i. eqb (π i) c) && powered I c (λ i. eqb (π i) c)) ≡ cabinets-keep I π
+  unfolding cabinets-keep rooms-keep
+  houses-all =
+      all-both (I .s) (λ c. fits I c (λ i. eqb (π i) c)) (λ c. powered I c (λ i. eqb (π i) c))
+      ∙ ap (λ (t : Bool). rooms-keep I π && t) powered-all
+
+  -- every cabinet admits what a plan puts there exactly when the plan uses no barred pair and passes the test of the cabinets
   admits-all : all-below (I .s) (λ c. admits I c (λ i. eqb (π i) c)) ≡ bars-keep I π && cabinets-keep I π
-  unfolding admits cabinets-keep
+  unfolding admits
   admits-all =
-      all-both (I .s) (λ c. fits I c (λ i. eqb (π i) c)) (λ c. unbarred I c (λ i. eqb (π i) c))
-      ∙ and-comm (cabinets-keep I π) (all-below (I .s) (λ c. unbarred I c (λ i. eqb (π i) c)))
-      ∙ ap (λ (t : Bool). t && cabinets-keep I π) unbarred-all
+      all-both (I .s) (λ c. fits I c (λ i. eqb (π i) c) && powered I c (λ i. eqb (π i) c)) (λ c. unbarred I c (λ i. eqb (π i) c))
+      ∙ ap₂ _&&_ houses-all unbarred-all
+      ∙ and-comm (cabinets-keep I π) (bars-keep I π)
 
   keeps-all : keeps I everywhere 0 (full (I .r)) π ≡ valid I π
   unfolding keeps valid in-range links-keep _⇒_

@@ -12,6 +12,7 @@ pub mod Services
 pub mod Charges
 pub mod Digits
 pub mod Splits
+pub mod Joints
 pub mod Cheapest
 pub mod First
 pub mod Theorems

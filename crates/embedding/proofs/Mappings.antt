@@ -8,7 +8,7 @@ use mathlib.Core.Bool.{Bool, true, false, not}
 use mathlib.Core.List.{List}
 use lib.Dec.{eqb, ltb, leb}
 use borrow.Author.Tests.{ltb-true, leb-true, lt-ltb, le-leb, not-true}
-use Rattle.finite.specs.Below.{_⇒_, only, sum-below, sum-over}
+use Rattle.finite.specs.Below.{_⇒_, only, sum-below, all-below, sum-over}
 use Rattle.finite.proofs.Booleans.{both, both-l, both-r, implies, implied}
 use Rattle.finite.proofs.Sums.{sum-ext, sum-mono, sum-over-ext}
 use Rattle.finite.proofs.Tests.{all-in, all-at}
@@ -16,19 +16,19 @@ use Rattle.sheet.specs.Instance.{Instance, WellFormed}
 use Rattle.embedding.specs.Definition1.{member, SimplePath, node-load, edge-load, Feasible, cost}
 use Rattle.embedding.specs.Limits.{weight, Limits}
 use Rattle.embedding.specs.Road.{up, down, lower, by-way, edge-price, tree, road}
-use Rattle.embedding.specs.Plan.{routes, demand-of, carried, link-keeps, in-range, bars-keep, cabinets-keep, links-keep, valid, links-cost, plan-cost}
+use Rattle.embedding.specs.Plan.{routes, demand-of, carried, link-keeps, in-range, bars-keep, rooms-keep, joints-keep, cabinets-keep, links-keep, valid, links-cost, plan-cost}
 use Rattle.embedding.proofs.Edges.{which, lower-pos, edge-lower, up-edge, down-edge, at-up, at-down}
 use Rattle.embedding.proofs.Paths.{path-simple, path-only}
 use Rattle.embedding.proofs.Feasible.{sums-suffice}
-use Rattle.embedding.proofs.Reckoning.{demand-sum, cabinets-by-demand, cabinets-cost-sum, link-fits-by-capacity, load-le-weight}
+use Rattle.embedding.proofs.Reckoning.{demand-sum, rooms-by-demand, cabinets-cost-sum, link-fits-by-capacity, load-le-weight}
 
 -- every service has a cabinet of the road
 abbrev pub InRange : Instance → (ℕ → ℕ) → Type 0
 InRange I π = (i : ℕ) → i < I .r → π i < I .s
 
--- what validity tests beyond Definition 1, and the limits must give: the test of the bars, and that of the links, where framing counts
+-- what validity tests beyond Definition 1, and the limits must give: the test of the bars, that of the links, where framing counts, and that of the joints
 unfoldable pub Beyond : Instance → (ℕ → ℕ) → Type 0
-Beyond I π = (bars-keep I π ≡ true) × (links-keep I π ≡ true)
+Beyond I π = (bars-keep I π ≡ true) × (links-keep I π ≡ true) × (joints-keep I π ≡ true)
 
 module _ (I : Instance) where
   -- ---- the tests of a plan, as facts
@@ -41,19 +41,28 @@ module _ (I : Instance) where
     λ p. all-in (I .r) (λ i. ltb (π i) (I .s)) (λ i k. lt-ltb (π i) (I .s) (p i k)),
   )
 
+  -- a test of every service that none is wrong
+  none-wrong : (wrong : ℕ → Bool) → (all-below (I .r) (λ i. not (wrong i)) ≡ true) ↔ ((i : ℕ) → i < I .r → wrong i ≡ false)
+  none-wrong wrong = (
+    λ h i k. not-true (wrong i) (all-at (I .r) (λ i. not (wrong i)) h i k),
+    λ p. all-in (I .r) (λ i. not (wrong i)) (λ i k. ap not (p i k)),
+  )
+
   -- the test of the bars is that no service is barred from its cabinet
   pub bars-test : (π : ℕ → ℕ) → (bars-keep I π ≡ true) ↔ ((i : ℕ) → i < I .r → I .barred i (π i) ≡ false)
   unfolding bars-keep
-  bars-test π = (
-    λ h i k. not-true (I .barred i (π i)) (all-at (I .r) (λ i. not (I .barred i (π i))) h i k),
-    λ p. all-in (I .r) (λ i. not (I .barred i (π i))) (λ i k. ap not (p i k)),
-  )
+  bars-test π = none-wrong (λ i. I .barred i (π i))
 
-  -- the test of the cabinets is the demand on each of them
-  pub cabinets-test : (π : ℕ → ℕ) → (cabinets-keep I π ≡ true) ↔ ((c : ℕ) → c < I .s → demand-of I (λ i. eqb (π i) c) ≤ I .capacity c)
-  cabinets-test π = (
-    λ h c k. leb-true _ _ (all-at (I .s) _ (sym (cabinets-by-demand I π) ∙ h) c k),
-    λ p. cabinets-by-demand I π ∙ all-in (I .s) _ (λ c k. le-leb _ _ (p c k)),
+  -- the test of the joints is that no service is on one
+  pub joints-test : (π : ℕ → ℕ) → (joints-keep I π ≡ true) ↔ ((i : ℕ) → i < I .r → I .joint (π i) ≡ false)
+  unfolding joints-keep
+  joints-test π = none-wrong (λ i. I .joint (π i))
+
+  -- the test of the cabinets' room is the demand on each of them
+  pub rooms-test : (π : ℕ → ℕ) → (rooms-keep I π ≡ true) ↔ ((c : ℕ) → c < I .s → demand-of I (λ i. eqb (π i) c) ≤ I .capacity c)
+  rooms-test π = (
+    λ h c k. leb-true _ _ (all-at (I .s) _ (sym (rooms-by-demand I π) ∙ h) c k),
+    λ p. rooms-by-demand I π ∙ all-in (I .s) _ (λ c k. le-leb _ _ (p c k)),
   )
 
   -- the test of the links is the load of each of their directions
@@ -90,14 +99,19 @@ module _ (I : Instance) where
       go e k l (inr q) = subst Kept (sym q) (omega (arith, l (lower e) (lower-pos e) k .1, at-down I (I .up-capacity) (I .down-capacity) (lower e) (lower-pos e)))
 
   -- a plan is valid when it passes the tests of Definition 1, and what is tested beyond it
-  pub valid-test : (π : ℕ → ℕ) → (valid I π ≡ true) ↔ ((in-range I π ≡ true) × (cabinets-keep I π ≡ true) × Beyond I π)
-  unfolding valid Beyond
+  pub valid-test : (π : ℕ → ℕ) → (valid I π ≡ true) ↔ ((in-range I π ≡ true) × (rooms-keep I π ≡ true) × Beyond I π)
+  unfolding valid cabinets-keep Beyond
   valid-test π = (
     λ h.
         let k = both-r (in-range I π) _ h in
         let l = both-r (bars-keep I π) _ k in
-        (both-l (in-range I π) _ h, both-l (cabinets-keep I π) (links-keep I π) l, (both-l (bars-keep I π) _ k, both-r (cabinets-keep I π) (links-keep I π) l)),
-    λ p. both (in-range I π) _ (p .0) (both (bars-keep I π) _ (p .2 .0) (both (cabinets-keep I π) (links-keep I π) (p .1) (p .2 .1))),
+        let c = both-l (cabinets-keep I π) (links-keep I π) l in (
+          both-l (in-range I π) _ h,
+          both-l (rooms-keep I π) (joints-keep I π) c,
+          (both-l (bars-keep I π) _ k, both-r (cabinets-keep I π) (links-keep I π) l, both-r (rooms-keep I π) (joints-keep I π) c),
+        ),
+    λ p. both (in-range I π) _ (p .0) (both (bars-keep I π) _ (p .2 .0)
+        (both (cabinets-keep I π) (links-keep I π) (both (rooms-keep I π) (joints-keep I π) (p .1) (p .2 .2)) (p .2 .1))),
   )
 
   -- ---- the sums of Definition 1 at one amount
@@ -157,14 +171,18 @@ module _ (I : Instance) (W : WellFormed I) where
       let b = valid-test I π .0 v .2 in
       record {
         bars = bars-test I π .0 (b .0);
+        joints = joints-test I π .0 (b .2);
         framing = λ e k. omega (arith, weights-plan I π (routes I π) (λ j k. refl) e, edges-test I π .0 (b .1) e k);
       }
 
   -- a feasible mapping that keeps the limits passes what validity tests beyond Definition 1
   pub limits-beyond : (π : ℕ → ℕ) (ρ : ℕ → List ℕ) → Feasible (road I) π ρ → Limits I π ρ → Beyond I π
   unfolding Beyond
-  limits-beyond π ρ F L =
-      (bars-test I π .1 (L .bars), edges-test I π .1 (λ e k. omega (arith, weights-plan I π ρ (route-only π ρ F) e, L .framing e k)))
+  limits-beyond π ρ F L = (
+    bars-test I π .1 (L .bars),
+    edges-test I π .1 (λ e k. omega (arith, weights-plan I π ρ (route-only π ρ F) e, L .framing e k)),
+    joints-test I π .1 (L .joints),
+  )
 
   -- ---- validity and feasibility
 
@@ -172,7 +190,7 @@ module _ (I : Instance) (W : WellFormed I) where
   feasible-valid π ρ F L =
       valid-test I π .1 (
         range-test I π .1 (F .valid .placed),
-        cabinets-test I π .1 (λ c k. omega (arith, F .nodes-keep c k 0 (omega arith), node-load-plan I π ρ c 0)),
+        rooms-test I π .1 (λ c k. omega (arith, F .nodes-keep c k 0 (omega arith), node-load-plan I π ρ c 0)),
         limits-beyond π ρ F L,
       )
 
@@ -182,7 +200,7 @@ module _ (I : Instance) (W : WellFormed I) where
       let t = valid-test I π .0 v in
       let p : InRange I π = range-test I π .0 (t .0) in
       sums-suffice (road I) π (routes I π) p (route-simple π p)
-      (λ c k n _. omega (arith, cabinets-test I π .0 (t .1) c k, node-load-plan I π (routes I π) c n))
+      (λ c k n _. omega (arith, rooms-test I π .0 (t .1) c k, node-load-plan I π (routes I π) c n))
       (λ e k n _. omega (arith, edge-load-le I π (routes I π) e n, valid-limits π v .framing e k))
 
   -- a plan is valid at cost k exactly when some mapping over it is feasible, keeps the limits, and costs k

@@ -1,4 +1,4 @@
--- What cabinets and links admit and charge, reckoned with sums of demands and loads, and with a number whose digits are the services barred from a cabinet. A proof that needs the numbers behind these names cites a law of this page.
+-- What cabinets and links admit and charge, reckoned with sums of demands and loads, and with numbers whose digits are a set of services and the services barred from a cabinet. A proof that needs the numbers behind these names cites a law of this page.
 use Prim.Native.Nat.{ℕ, zero, suc, _+_, _*_, _≤_, _<_}
 use native.Mathlib.Omega.{arith}
 use mathlib.Core.Path.{_≡_, refl, sym, ap, ap₂, _∙_}
@@ -7,15 +7,16 @@ use lib.Bits.{bitAnd, and-le-l, and-le-r}
 use lib.Dec.{eqb, ltb, leb}
 use Rattle.finite.specs.Below.{_⇒_, only, sum-below, all-below}
 use Rattle.finite.proofs.Sums.{sum-ext, sum-mul}
-use Rattle.finite.proofs.Tests.{all-ext}
+use Rattle.finite.proofs.Booleans.{implies}
+use Rattle.finite.proofs.Tests.{all-in, all-ext}
 use Rattle.subsets.specs.Sets.{has}
 use Rattle.subsets.specs.Costs.{provided}
 use Rattle.subsets.specs.Inner.Masks.{full}
-use Rattle.subsets.proofs.Sets.{full-lt, has-and-full, apart-and}
+use Rattle.subsets.proofs.Sets.{has-full, full-lt, and-full, has-and-full, apart-and}
 use Rattle.sheet.specs.Instance.{Instance}
 use Rattle.embedding.specs.Definition1.{member}
 use Rattle.embedding.specs.Limits.{frames, weight}
-use Rattle.embedding.specs.Plan.{routes, demand-of, fits, unbarred, admits, link-fits, fee, toll, carried, cabinets-keep, cabinets-cost}
+use Rattle.embedding.specs.Plan.{routes, demand-of, fits, unbarred, powered, admits, link-fits, fee, toll, carried, rooms-keep, cabinets-cost}
 use Rattle.embedding.specs.Inner.Charge.{leaving, entering, cabinet-charge, link-charge}
 
 -- a number that a test lets through, and a factor
@@ -54,15 +55,15 @@ module _ (I : Instance) where
   unfolding fits
   fits-by-demand c x = refl
 
-  -- what a cabinet admits, by demand and bars
-  pub admits-by-demand : (c : ℕ) (x : ℕ → Bool) → admits I c x ≡ leb (demand-of I x) (I .capacity c) && unbarred I c x
+  -- what a cabinet admits, by demand, power and bars
+  pub admits-by-demand : (c : ℕ) (x : ℕ → Bool) → admits I c x ≡ (leb (demand-of I x) (I .capacity c) && powered I c x) && unbarred I c x
   unfolding admits
-  admits-by-demand c x = ap (λ (t : Bool). t && unbarred I c x) (fits-by-demand c x)
+  admits-by-demand c x = ap (λ (t : Bool). (t && powered I c x) && unbarred I c x) (fits-by-demand c x)
 
-  -- the test of the cabinets, by the demand on each of them
-  pub cabinets-by-demand : (π : ℕ → ℕ) → cabinets-keep I π ≡ all-below (I .s) (λ c. leb (demand-of I (λ i. eqb (π i) c)) (I .capacity c))
-  unfolding cabinets-keep
-  cabinets-by-demand π = all-ext (I .s) _ _ (λ c k. fits-by-demand c (λ i. eqb (π i) c))
+  -- the test of the cabinets' room, by the demand on each of them
+  pub rooms-by-demand : (π : ℕ → ℕ) → rooms-keep I π ≡ all-below (I .s) (λ c. leb (demand-of I (λ i. eqb (π i) c)) (I .capacity c))
+  unfolding rooms-keep
+  rooms-by-demand π = all-ext (I .s) _ _ (λ c k. fits-by-demand c (λ i. eqb (π i) c))
 
   -- what the cabinets charge for a plan, service by service
   pub cabinets-cost-sum : (π : ℕ → ℕ) → cabinets-cost I π ≡ sum-below (I .r) (λ i. I .demand i * I .price (π i))
@@ -74,10 +75,26 @@ module _ (I : Instance) where
   unfolding fee demand-of
   fees-by-demand c x = sym (sum-mul (I .r) (λ i. only (x i) (I .demand i)) (I .price c) ∙ sum-ext (I .r) _ _ (λ i k. only-mul (x i) (I .demand i) (I .price c)))
 
-  -- what a cabinet charges for a set, by demand and bars
-  pub charge-by-demand : (c x : ℕ) → cabinet-charge I c x ≡ provided (leb (demand-of I (has x)) (I .capacity c) && unbarred I c (has x)) (demand-of I (has x) * I .price c)
+  -- what a cabinet charges for a set, by demand, power and bars
+  pub charge-by-demand : (c x : ℕ) → cabinet-charge I c x
+      ≡ provided ((leb (demand-of I (has x)) (I .capacity c) && powered I c (has x)) && unbarred I c (has x)) (demand-of I (has x) * I .price c)
   unfolding cabinet-charge
   charge-by-demand c x = ap₂ provided (admits-by-demand c (has x)) (fees-by-demand c (has x))
+
+  -- a cabinet has power for a set exactly when it is no joint or none of the services of the set is there
+  powered-by-digits : (c x : ℕ) → powered I c (has x) ≡ I .joint c ⇒ eqb (bitAnd x (full (I .r))) 0
+  unfolding powered _⇒_
+  powered-by-digits c x = go (I .joint c)
+    where
+      y : ℕ
+      y = bitAnd x (full (I .r))
+
+      go : (t : Bool) → all-below (I .r) (λ i. has x i ⇒ not t) ≡ t ⇒ eqb (bitAnd x (full (I .r))) 0
+      go false = all-in (I .r) (λ i. has x i ⇒ true) (λ i k. implies (has x i) true (λ e. refl))
+      go true =
+          all-ext (I .r) _ _ (λ i k. ap₂ (λ (s t : Bool). s ⇒ not t) (sym (has-and-full (I .r) x i k)) (sym (has-full (I .r) i k)))
+          ∙ apart-and (I .r) y (full (I .r)) (omega (arith, and-le-l y (full (I .r)), and-le-r x (full (I .r)), full-lt (I .r)))
+          ∙ ap (λ (z : ℕ). eqb z 0) (and-full (I .r) y (omega (arith, and-le-r x (full (I .r)), full-lt (I .r))))
 
   -- ---- cabinets, where the digits of the number w are the services barred from cabinet c
   module _ (c w : ℕ) (word : (i : ℕ) → i < I .r → has w i ≡ I .barred i c) where
@@ -91,10 +108,12 @@ module _ (I : Instance) where
 
     -- what a cabinet charges for a set, by demand and digits
     pub charge-by-digits : (x : ℕ) → cabinet-charge I c x
-        ≡ provided (leb (demand-of I (has x)) (I .capacity c) && eqb (bitAnd (bitAnd x (full (I .r))) w) 0) (demand-of I (has x) * I .price c)
+        ≡ provided ((leb (demand-of I (has x)) (I .capacity c) && (I .joint c ⇒ eqb (bitAnd x (full (I .r))) 0)) && eqb (bitAnd (bitAnd x (full (I .r))) w) 0)
+        (demand-of I (has x) * I .price c)
     charge-by-digits x =
         charge-by-demand c x
-        ∙ ap (λ (t : Bool). provided (leb (demand-of I (has x)) (I .capacity c) && t) (demand-of I (has x) * I .price c)) (unbarred-by-digits x)
+        ∙ ap₂ (λ (s t : Bool). provided ((leb (demand-of I (has x)) (I .capacity c) && s) && t) (demand-of I (has x) * I .price c))
+        (powered-by-digits c x) (unbarred-by-digits x)
 
   -- ---- links
 

@@ -12,7 +12,7 @@ use Rattle.sheet.specs.Instance.{Instance, WellFormed}
 use Rattle.embedding.specs.Definition1.{member}
 use Rattle.embedding.specs.Road.{up, down, edge-price}
 use Rattle.embedding.specs.Limits.{weight}
-use Rattle.embedding.specs.Plan.{path, routes, demand-of, fits, unbarred, admits, link-fits, fee, toll, carried, link-keeps, in-range, bars-keep, cabinets-keep, links-keep, valid, cabinets-cost, links-cost, plan-cost, worth}
+use Rattle.embedding.specs.Plan.{path, routes, demand-of, fits, unbarred, powered, admits, link-fits, fee, toll, carried, link-keeps, in-range, bars-keep, rooms-keep, joints-keep, cabinets-keep, links-keep, valid, cabinets-cost, links-cost, plan-cost, worth}
 use Rattle.embedding.specs.Inner.Charge.{leaving, entering}
 use Rattle.embedding.proofs.Loads.{link-cost}
 
@@ -34,10 +34,15 @@ module _ (I : Instance) (W : WellFormed I) where
     unfolding unbarred
     unbarred-ext c = all-ext (I .r) _ _ (λ i k. ap (λ (t : Bool). t ⇒ not (I .barred i c)) (same i k))
 
+    -- which services a cabinet has power for
+    powered-ext : (c : ℕ) → powered I c x ≡ powered I c y
+    unfolding powered
+    powered-ext c = all-ext (I .r) _ _ (λ i k. ap (λ (t : Bool). t ⇒ not (I .joint c)) (same i k))
+
     -- what a cabinet admits
     pub admits-ext : (c : ℕ) → admits I c x ≡ admits I c y
     unfolding admits
-    admits-ext c = ap₂ _&&_ (fits-ext c) (unbarred-ext c)
+    admits-ext c = ap₂ _&&_ (ap₂ _&&_ (fits-ext c) (powered-ext c)) (unbarred-ext c)
 
     -- what leaves a set
     pub leaving-ext : (f : ℕ → ℕ) → leaving I f x ≡ leaving I f y
@@ -71,13 +76,19 @@ module _ (I : Instance) (W : WellFormed I) where
         (leaving-ext (λ i. under (I .parent) c (π i)) (λ i. under (I .parent) c (σ i)) (λ i k. ap (under (I .parent) c) (same i k)) (I .load))
         (entering-ext (λ i. under (I .parent) c (π i)) (λ i. under (I .parent) c (σ i)) (λ i k. ap (under (I .parent) c) (same i k)) (I .load))
 
+    cabinets-keep-ext : cabinets-keep I π ≡ cabinets-keep I σ
+    unfolding cabinets-keep rooms-keep joints-keep
+    cabinets-keep-ext =
+        ap₂ _&&_
+        (all-ext (I .s) _ _ (λ c k. fits-ext (λ i. eqb (π i) c) (λ i. eqb (σ i) c) (λ i k. ap (λ (z : ℕ). eqb z c) (same i k)) c))
+        (all-ext (I .r) _ _ (λ i k. ap (λ (z : ℕ). not (I .joint z)) (same i k)))
+
     valid-ext : valid I π ≡ valid I σ
-    unfolding valid in-range bars-keep cabinets-keep links-keep
+    unfolding valid in-range bars-keep links-keep
     valid-ext =
         ap₂ _&&_ (all-ext (I .r) _ _ (λ i k. ap (λ (z : ℕ). ltb z (I .s)) (same i k)))
         (ap₂ _&&_ (all-ext (I .r) _ _ (λ i k. ap (λ (z : ℕ). not (I .barred i z)) (same i k)))
-        (ap₂ _&&_
-        (all-ext (I .s) _ _ (λ c k. fits-ext (λ i. eqb (π i) c) (λ i. eqb (σ i) c) (λ i k. ap (λ (z : ℕ). eqb z c) (same i k)) c))
+        (ap₂ _&&_ cabinets-keep-ext
         (all-ext (I .s) _ _ (λ c k. ap (λ (t : Bool). ltb 0 c ⇒ t) (link-keeps-ext c)))))
 
     plan-cost-ext : plan-cost I π ≡ plan-cost I σ

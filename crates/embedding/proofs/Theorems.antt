@@ -31,6 +31,7 @@ use Rattle.embedding.proofs.Loads as loads
 use Rattle.embedding.proofs.Bound as bounds
 use Rattle.embedding.proofs.Charges as charged
 use Rattle.embedding.proofs.Splits as splits
+use Rattle.embedding.proofs.Joints as jointed
 use Rattle.embedding.proofs.Cheapest as least
 use Rattle.embedding.proofs.First as firsts
 
@@ -113,11 +114,15 @@ module _ (I : Instance) (W : WellFormed I) where
       (charge (net I) (λ d. true) 0 (full (I .r)) π ≡ some k) ↔ ((valid I π ≡ true) × (plan-cost I π ≡ k))
   charges π h = charged.charges-iff I W π (range-test I π .0 h)
 
-  -- A set can be placed on the part before c exactly when some placing of it there, of any kind, uses no barred pair and keeps the capacities.
+  -- A set can be placed on the part before c exactly when some placing of it there, of any kind, uses no barred pair and no joint and keeps the capacities.
   pub placeable-iff : (c a : ℕ) → 0 < c → c < I .s → (placeable I c a ≡ true) ↔ ((π : ℕ → ℕ) × (keeps I (before (I .parent) c) (I .parent c) a π ≡ true))
   placeable-iff = splits.placeable-iff I W
 
-  -- And exactly when the least charge there is a cost.
+  -- The empty set can always be placed, also where there are joints only.
+  pub empty-placeable : (c : ℕ) → placeable I c 0 ≡ true
+  empty-placeable = jointed.empty-placeable I W
+
+  -- A set can be placed exactly when the least charge there is a cost.
   pub placeable-least : (c a : ℕ) (f : Cost) → 0 < c → c < I .s → Least (net I) (before (I .parent) c) (I .parent c) a f → placeable I c a ≡ is-some f
   placeable-least = splits.placeable-least I W
 

@@ -21,5 +21,7 @@ weight I j = I .load j + 2 * frames I j
 pub record Limits (I : Instance) (place : ℕ → ℕ) (path : ℕ → List ℕ) : Type 0 where
   -- 02 (a): it uses no barred pair, so no service is barred from the cabinet that it is put on
   pub bars : (i : ℕ) → i < I .r → I .barred i (place i) ≡ false
+  -- 02 (i): a joint holds no service, even one of demand 0, so no service is put on one
+  pub joints : (i : ℕ) → i < I .r → I .joint (place i) ≡ false
   -- 02 (e): framing takes line too, so on every edge the weights of the streams whose paths have it sum to at most its capacity
   pub framing : (e : ℕ) → e < tree I .edges → sum-below (I .q) (λ j. only (member e (path j)) (weight I j)) ≤ road I .edge-capacity e 0

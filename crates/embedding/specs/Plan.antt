@@ -1,4 +1,4 @@
--- 01, "A valid plan and its cost", with the barred pairs of 02 (a) and the framing of 02 (e). A plan π gives each service i the cabinet π i.
+-- 01, "A valid plan and its cost", with the barred pairs of 02 (a), the framing of 02 (e) and the joints of 02 (i). A plan π gives each service i the cabinet π i.
 use Prim.Native.Nat.{ℕ, zero, suc, _+_, _*_, _/_, _%_, _^_}
 use mathlib.Core.Bool.{Bool, true, false, _&&_, not}
 use mathlib.Core.List.{List, [], _∷_, _++_}
@@ -50,9 +50,13 @@ module _ (I : Instance) where
   unfoldable pub unbarred : ℕ → (ℕ → Bool) → Bool
   unbarred c x = all-below (I .r) (λ i. x i ⇒ not (I .barred i c))
 
-  -- cabinet c admits the services for which x holds: it has room for them, and none of them is barred from it
+  -- cabinet c has power for the services for which x holds: it is no joint, or there is no such service
+  unfoldable pub powered : ℕ → (ℕ → Bool) → Bool
+  powered c x = all-below (I .r) (λ i. x i ⇒ not (I .joint c))
+
+  -- cabinet c admits the services for which x holds: it has room and power for them, and none of them is barred from it
   unfoldable pub admits : ℕ → (ℕ → Bool) → Bool
-  admits c x = fits c x && unbarred c x
+  admits c x = (fits c x && powered c x) && unbarred c x
 
   -- the link above c lets through m upwards and n downwards: each is at most the capacity of its direction
   unfoldable pub link-fits : ℕ → ℕ → ℕ → Bool
@@ -83,14 +87,22 @@ module _ (I : Instance) where
   bars-keep π = all-below (I .r) (λ i. not (I .barred i (π i)))
 
   -- no cabinet is overfull
+  unfoldable pub rooms-keep : (ℕ → ℕ) → Bool
+  rooms-keep π = all-below (I .s) (λ c. fits c (λ i. eqb (π i) c))
+
+  -- no service sits on a joint
+  unfoldable pub joints-keep : (ℕ → ℕ) → Bool
+  joints-keep π = all-below (I .r) (λ i. not (I .joint (π i)))
+
+  -- no cabinet is overfull, and none that is a joint has a service
   unfoldable pub cabinets-keep : (ℕ → ℕ) → Bool
-  cabinets-keep π = all-below (I .s) (λ c. fits c (λ i. eqb (π i) c))
+  cabinets-keep π = rooms-keep π && joints-keep π
 
   -- no link is overfull in either direction
   unfoldable pub links-keep : (ℕ → ℕ) → Bool
   links-keep π = all-below (I .s) (λ c. ltb 0 c ⇒ link-keeps π c)
 
-  -- a plan is valid when it passes the four tests; source document 000, which bars and frames nothing, says feasible
+  -- a plan is valid when it passes the four tests; source document 000, which bars and frames nothing and knows no joints, says feasible
   unfoldable pub valid : (ℕ → ℕ) → Bool
   valid π = in-range π && (bars-keep π && (cabinets-keep π && links-keep π))
 

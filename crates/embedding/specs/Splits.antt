@@ -1,4 +1,4 @@
--- 01, "Splits weighed", with the barred pairs of 02 (a) and the framing of 02 (e): the sets of services that can be placed on the part before a cabinet, and the count of splits.
+-- 01, "Splits weighed", with the barred pairs of 02 (a), the framing of 02 (e) and the joints of 02 (i): the sets of services that can be placed on the part before a cabinet, and the count of splits.
 use Prim.Native.Nat.{ℕ, _^_}
 use mathlib.Core.Bool.{Bool, true, false, _&&_}
 use lib.Dec.{eqb, ltb}
@@ -13,14 +13,14 @@ module _ (I : Instance) where
   unfoldable pub stands : ℕ → ℕ → (ℕ → ℕ) → ℕ → ℕ
   stands a p π i = elim (has a i) [ true ↦ π i | false ↦ p ]
 
-  -- π places a on the part T with top p, uses no barred pair, and keeps every capacity of its cabinets and of the links between them
+  -- π places a on the part T with top p, uses no barred pair and no joint, and keeps every capacity of its cabinets and of the links between them
   unfoldable pub keeps : (ℕ → Bool) → ℕ → ℕ → (ℕ → ℕ) → Bool
   keeps T p a π =
       all-below (I .r) (λ i. has a i ⇒ T (π i) && ltb (π i) (I .s))
       && (all-below (I .s) (λ c. T c ⇒ admits I c (λ i. has a i && eqb (π i) c))
       && all-below (I .s) (λ c. T c && (ltb 0 c && T (I .parent c)) ⇒ link-keeps I (stands a p π) c))
 
-  -- some placing of a on the part before c uses no barred pair and keeps its capacities
+  -- some placing of a on the part before c uses no barred pair and no joint and keeps its capacities
   unfoldable pub placeable : ℕ → ℕ → Bool
   placeable c a = any-below (I .s ^ I .r) (λ n. keeps (before (I .parent) c) (I .parent c) a (digit (I .s) n))
 
