@@ -5,18 +5,20 @@ use native.Mathlib.Nat.{mul-le-mul, pow-le-pow-right}
 use mathlib.Core.Path.{_≡_, refl, sym, ap, _∙_}
 use mathlib.Core.Bool.{Bool, true, _&&_, not}
 use mathlib.Core.List.{List}
+use lib.Bits.{bitAnd}
 use lib.Dec.{eqb, leb, ltb}
 use lib.ListN.{getD}
 use borrow.Author.Tests.{eqb-true, eq-eqb, leb-true, ltb-true, lt-ltb}
-use Rattle.finite.specs.Below.{only}
+use Rattle.finite.specs.Below.{_⇒_, only}
 use Rattle.finite.proofs.Booleans.{clash, both-l, both-r}
 use Rattle.finite.proofs.Tests.{all-at}
+use Rattle.subsets.specs.Inner.Masks.{full}
 use Rattle.subsets.specs.Inner.Net.{Falls}
 use Rattle.subsets.specs.Costs.{some}
 use Rattle.subsets.specs.Figures.{limit}
 use Rattle.subsets.proofs.Provided.{provided-some}
 use Rattle.rows.specs.Cabinets as records
-use Rattle.rows.specs.Cabinets.{field, parent-of, falling}
+use Rattle.rows.specs.Cabinets.{field, parent-of, own-of, falling}
 use Rattle.rows.proofs.Guards.{field-all, parent-lt}
 use Rattle.core.specs.Sound.{amounts, between, running, rooted, cabinets-sound, fields-sound, sound}
 use Rattle.core.specs.Sums.{demand-in, flow-out}
@@ -124,7 +126,10 @@ module _ (k : Records) (G : Good k) where
   unfolding records.own-of
   nodes c x n hc hx e =
       let w = provided-some _ _ n .0 e in
-      omega (arith, w .1, product-le (demand-in (k .demand) (k .services) x) (field (k .cabinets) (k .capacity) c) (field (k .cabinets) (k .price) c) (leb-true _ _ (both-l (leb (demand-in (k .demand) (k .services) x) (field (k .cabinets) (k .capacity) c)) _ (w .0))) (G .capacities c) (G .prices c))
+      let d = demand-in (k .demand) (k .services) x in
+      let room = leb d (field (k .cabinets) (k .capacity) c) in
+      let fits : room ≡ true = both-l room _ (both-l (room && (own-of k c .joint ⇒ eqb (bitAnd x (full (k .services))) 0)) _ (w .0)) in
+      omega (arith, w .1, product-le d (field (k .cabinets) (k .capacity) c) (field (k .cabinets) (k .price) c) (leb-true _ _ fits) (G .capacities c) (G .prices c))
 
   pub links : (c x n : ℕ) → c < k .cabinets → x < 2 ^ k .services → netted k .link c x ≡ some n → n ≤ 200000000
   unfolding records.link-of

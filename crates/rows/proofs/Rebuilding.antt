@@ -46,7 +46,7 @@ field-at n l i h = rw (lt-ltb i n h) refl
 
 -- a cabinet that is there, and the link above it
 pub own-there : (k : Records) (c : ℕ) → c < k .cabinets
-    → record { capacity = getD (k .capacity) c 0; price = getD (k .price) c 0; barred = getD (k .barred) c 0 } ≡ own-of k c
+    → record { capacity = getD (k .capacity) c 0; price = getD (k .price) c 0; barred = getD (k .barred) c 0; joint = getD (k .joint) c false } ≡ own-of k c
 unfolding own-of only
 own-there k c h = rw (lt-ltb c (k .cabinets) h) refl
 

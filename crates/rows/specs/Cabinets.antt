@@ -1,6 +1,6 @@
 -- The records of cabinets as they stand in arrays.
 use Prim.Native.Nat.{ℕ}
-use mathlib.Core.Bool.{Bool, _||_}
+use mathlib.Core.Bool.{Bool, false, _&&_, _||_}
 use mathlib.Core.List.{List}
 use lib.Dec.{leb, ltb}
 use lib.ListN.{getD}
@@ -24,6 +24,7 @@ own-of k c =
       capacity = field (k .cabinets) (k .capacity) c;
       price = field (k .cabinets) (k .price) c;
       barred = field (k .cabinets) (k .barred) c;
+      joint = ltb c (k .cabinets) && getD (k .joint) c false;
     }
 
 -- what the link above cabinet c lets through

@@ -5,6 +5,7 @@ use mathlib.Core.List.{List}
 use lib.Bits.{bitAnd}
 use lib.Dec.{eqb, leb}
 use lib.ListN.{getD}
+use Rattle.finite.specs.Below.{_⇒_}
 use Rattle.sheet.specs.Limits.{max-services}
 use Rattle.subsets.specs.Costs.{Cost, provided}
 use Rattle.subsets.specs.Inner.Encoded.{figure}
@@ -21,9 +22,10 @@ max-sets = 2 ^ max-services
 abbrev pub all-sums : ℕ
 all-sums = 5 * max-sets
 
--- what cabinet k charges for the services x, of so much demand; none where they are too much for it or one is barred from it
+-- what cabinet k charges for the services x, of so much demand; none where they are too much for it, or it is a joint and there is one, or one is
+-- barred from it
 abbrev pub own-cost : Own → ℕ → ℕ → Cost
-own-cost k x demand = provided (leb demand (k .capacity) && eqb (bitAnd x (k .barred)) 0) (demand * k .price)
+own-cost k x demand = provided ((leb demand (k .capacity) && (k .joint ⇒ eqb x 0)) && eqb (bitAnd x (k .barred)) 0) (demand * k .price)
 
 -- what the link k charges for what runs upwards and downwards, by its demand; none where the load of a direction is too much for it
 abbrev pub link-cost : Link → Flow → Flow → Cost

@@ -56,6 +56,9 @@ fn own_charge(x: u32, demand: u32, k: Own) -> u64
     if word(k.capacity) < wide(demand) {
         return NONE;
     }
+    if k.joint & (x != 0) {
+        return NONE;
+    }
     if x & widened(k.barred) != 0 {
         return NONE;
     }

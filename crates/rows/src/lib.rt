@@ -43,11 +43,12 @@ pub const LOW_DIGITS: usize = Sheet::MAX_SERVICES / 2;
 // Places for rows of keys, two places a set: so many rows of 2^r sets are kept as fit.
 const KEYS: usize = 4 * SETS;
 
-// What a cabinet itself lets in, and at what price; the services barred from it are a set.
+// What a cabinet itself lets in, and at what price; the services barred from it are a set. A joint lets none in.
 struct Own {
     capacity: u16,
     price: u16,
     barred: u16,
+    joint: bool,
 }
 
 // What the link above a cabinet lets through each way, and at what price.
@@ -124,6 +125,7 @@ fn rebuild<'a>(
         capacity: records.capacity[p],
         price: records.price[p],
         barred: records.barred[p],
+        joint: records.joint[p],
     };
     let at = p * size;
     let end = at + size;
