@@ -26,7 +26,7 @@ use Rattle.checker.specs.Check.{rules, all-rules, check-numbers, answere
 use Rattle.checker.specs.Answers.{number, group, cost}
 use Rattle.checker.specs.declared.Checked.{Checked}
 use Rattle.checker.specs.declared.Checked.the-variants.{Accepted, Refused}
-use Rattle.checker.proofs.Deciding.{handed-on, on-plan}
+use Rattle.checker.proofs.Deciding.{handed-on, on-plan, cabinet-overfull}
 
 -- ---- numbers and groups
 
@@ -114,6 +114,13 @@ accepted-iff bytes h reads plan k =
       λ q. let p = t .0 (sym e ∙ q) in (eqb-true _ _ (p .0), p .1, p .2),
       λ p. e ∙ t .1 (eq-eqb _ _ (p .0), p .1, p .2),
     )
+
+-- a plan that passes the tests before that of the cabinets, but not that, gets 15
+pub gets-15 : (bytes : List ℕ) (h : Sheet) → reading bytes ≡ readings.Accepted h → (plan : List ℕ) → length plan ≡ instance bytes .r →
+    in-range (instance bytes) (place plan) ≡ true → bars-keep (instance bytes) (place plan) ≡ true →
+    cabinets-keep (instance bytes) (place plan) ≡ false → checked bytes plan ≡ Refused (refusal 15)
+unfolding refusal
+gets-15 bytes h reads plan places range bars e = sym (cabinet-overfull bytes plan h reads (instance bytes) refl places range bars e)
 
 -- the reader accepts the sheet of an accepted plan
 pub accepted-reads : (bytes plan : List ℕ) (k : ℕ) → checked bytes plan ≡ Accepted k → (h : Sheet) × (reading bytes ≡ readings.Accepted h)

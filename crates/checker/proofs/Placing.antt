@@ -1,4 +1,4 @@
--- The test of the cabinets, one after the other, and their part of the cost.
+-- The test of the cabinets' room, one after the other, and their part of the cost.
 use Prim.Native.Nat.{ℕ, _+_, _*_, _^_, _≤_, _<_}
 use native.Mathlib.Nat.{mul-le-mul}
 use native.Mathlib.Omega.{arith}
@@ -10,8 +10,8 @@ use Rattle.finite.specs.Below.{only, sum-below, all-below}
 use Rattle.finite.proofs.Sums.{sum-next, sum-part}
 use Rattle.finite.proofs.Tests.{all-next, all-end, all-stop}
 use Rattle.sheet.specs.Instance.{Instance, WellFormed}
-use Rattle.embedding.specs.Plan.{demand-of, in-range, cabinets-keep, cabinets-cost, plan-cost}
-use Rattle.embedding.proofs.Reckoning.{demand-sum, cabinets-by-demand, cabinets-cost-sum}
+use Rattle.embedding.specs.Plan.{demand-of, in-range, rooms-keep, cabinets-cost, plan-cost}
+use Rattle.embedding.proofs.Reckoning.{demand-sum, rooms-by-demand, cabinets-cost-sum}
 use Rattle.embedding.proofs.Bound.{demand-le}
 use Rattle.embedding.proofs.Theorems.{cost-bound}
 
@@ -29,16 +29,16 @@ module _ (I : Instance) (π : ℕ → ℕ) where
   KeptBelow n = all-below n kept ≡ true
 
   -- one that is overfull decides
-  pub overfull : (c n : ℕ) → c < I .s → n ≡ placed c → I .capacity c < n → false ≡ cabinets-keep I π
-  overfull c n h e l = all-stop (I .s) kept c h (lt-leb (placed c) (I .capacity c) (omega arith)) ∙ sym (cabinets-by-demand I π)
+  pub overfull : (c n : ℕ) → c < I .s → n ≡ placed c → I .capacity c < n → false ≡ rooms-keep I π
+  overfull c n h e l = all-stop (I .s) kept c h (lt-leb (placed c) (I .capacity c) (omega arith)) ∙ sym (rooms-by-demand I π)
 
   -- one more that is not
   pub kept-next : (c n : ℕ) → KeptBelow c → n ≡ placed c → n ≤ I .capacity c → KeptBelow (c + 1)
   kept-next c n h e l = all-next c kept h (le-leb (placed c) (I .capacity c) (omega arith))
 
   -- all of them
-  pub kept-all : (c : ℕ) → c ≤ I .s → I .s ≤ c → KeptBelow c → true ≡ cabinets-keep I π
-  kept-all c h k b = all-end (I .s) c kept h k b ∙ sym (cabinets-by-demand I π)
+  pub kept-all : (c : ℕ) → c ≤ I .s → I .s ≤ c → KeptBelow c → true ≡ rooms-keep I π
+  kept-all c h k b = all-end (I .s) c kept h k b ∙ sym (rooms-by-demand I π)
 
   -- what the first n services cost
   abbrev pub charged : ℕ → ℕ

@@ -1,4 +1,4 @@
--- What the check answers for any bytes and any plan: 01, "A valid plan and its cost" and refusals 13 to 16, with 20 of 02 (a) after 14.
+-- What the check answers for any bytes and any plan: 01, "A valid plan and its cost" and refusals 13 to 16, with 20 of 02 (a) after 14 and the joints of 02 (i) in 15.
 use Prim.Native.Nat.{ℕ, zero, suc}
 use mathlib.Core.Bool.{not}
 use mathlib.Core.List.{List, [], _∷_, _++_}
@@ -15,7 +15,7 @@ use Rattle.checker.specs.declared.Checked.{Checked}
 use Rattle.checker.specs.declared.Checked.the-variants.{Accepted, Refused}
 
 -- the refusals of a plan: it hasn't exactly r places; a cabinet number is not below s; a service is on a cabinet that it is barred from;
--- a cabinet is overfull; a link direction is overfull
+-- a cabinet is overfull, or a service is on a joint; a link direction is overfull
 unfoldable pub rules : Instance → List ℕ → List Rule
 rules I plan =
     record { number = 13; applies = not (eqb (length plan) (I .r)) }

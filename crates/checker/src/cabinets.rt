@@ -4,7 +4,7 @@ ghost use lib.Dec.{eqb, ltb};
 ghost use lib.ListN.{length};
 ghost use Rattle.finite.specs.Below.{all-below};
 ghost use Rattle.records.specs.Told.{told};
-ghost use Rattle.embedding.specs.Plan.{place, demand-of, bars-keep, cabinets-keep, cabinets-cost};
+ghost use Rattle.embedding.specs.Plan.{place, demand-of, bars-keep, rooms-keep, joints-keep, cabinets-keep, cabinets-cost};
 ghost use Rattle.checker.specs.Inner.Records.{Placed};
 use crate::numbers::index;
 use crate::numbers::wide;
@@ -70,9 +70,9 @@ fn placed_demand(records: Records, plan: &[u16], c: usize) -> u64
 }
 
 // No cabinet is overfull.
-pub(crate) fn are_cabinets_kept(records: Records, plan: &[u16]) -> bool
+fn are_rooms_kept(records: Records, plan: &[u16]) -> bool
     requires { ⌜ Placed records (now plan) ⌝ }
-    ensures { λ b. ⌜ b ≡ cabinets-keep (told records) (place (now (plan .entry))) ⌝ }
+    ensures { λ b. ⌜ b ≡ rooms-keep (told records) (place (now (plan .entry))) ⌝ }
 {
     let cabinets = records.cabinets;
     let mut c = 0;
@@ -84,6 +84,29 @@ pub(crate) fn are_cabinets_kept(records: Records, plan: &[u16]) -> bool
         c += 1;
     }
     true
+}
+
+// No service sits on a joint.
+fn are_joints_kept(records: Records, plan: &[u16]) -> bool
+    ensures { λ b. ⌜ b ≡ joints-keep (told records) (place (now (plan .entry))) ⌝ }
+{
+    let services = records.services;
+    let mut i = 0;
+    while i < services {
+        if records.is_joint(place_of(plan, i)) {
+            return false;
+        }
+        i += 1;
+    }
+    true
+}
+
+// No cabinet is overfull, and none that is a joint has a service.
+pub(crate) fn are_cabinets_kept(records: Records, plan: &[u16]) -> bool
+    requires { ⌜ Placed records (now plan) ⌝ }
+    ensures { λ b. ⌜ b ≡ cabinets-keep (told records) (place (now (plan .entry))) ⌝ }
+{
+    are_rooms_kept(records, plan) && are_joints_kept(records, plan)
 }
 
 // What the cabinets charge for the services: each one's demand times the price of its cabinet.

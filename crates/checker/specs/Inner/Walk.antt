@@ -1,4 +1,4 @@
--- What the walk over the links answers for a plan whose cabinets are all on the road and not overfull.
+-- What the walk over the links answers for a plan that passes all tests before that of the links.
 use Prim.Native.Nat.{ℕ}
 use mathlib.Core.Bool.{cond}
 use Rattle.sheet.specs.Refusals.{refusal}
