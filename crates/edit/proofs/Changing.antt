@@ -2,6 +2,7 @@
 use Prim.Native.Nat.{ℕ, _<_}
 use mathlib.Core.Path.{_≡_, sym, ap, _∙_, subst, fun-ext}
 use mathlib.Core.Bool.{false}
+use mathlib.Core.List.{List}
 use lib.Dec.{ltb}
 use borrow.Author.Tests.{ltb-true}
 use Rattle.finite.proofs.Sums.{only-ext}
@@ -11,13 +12,21 @@ use Rattle.subsets.specs.Inner.Net.{Falls}
 use Rattle.subsets.specs.Inner.Local.{Differ, Off}
 use Rattle.subsets.proofs.Local.{row-all-local, kept-choice-local}
 use Rattle.rows.specs.Keys.{base}
-use Rattle.sheet.specs.Instance.{Instance}
+use Rattle.sheet.specs.Instance.{Instance, instance}
+use Rattle.sheet.proofs.Promises.{joints-by-capacity}
+use Rattle.sheet.proofs.Same.{same-joint}
 use Rattle.embedding.specs.Limits as limits
 use Rattle.embedding.specs.Plan as plans
 use Rattle.embedding.specs.Inner.Charge as charges
 use Rattle.embedding.specs.Inner.Charge.{cabinet-charge, link-charge, net}
 use Rattle.planner.specs.Inner.Tables.{cost-entry, choice-entry}
-use Rattle.edit.specs.Changed.{Changed}
+use Rattle.edit.specs.Changed.{Beside, Changed}
+
+-- two sheets whose capacities are the same but at e have the same joints but at e
+pub joints-beside : (bytes others : List ℕ) (e : ℕ) → instance bytes .s ≡ instance others .s
+    → Beside e (instance bytes .capacity) (instance others .capacity) → Beside e (instance bytes .joint) (instance others .joint)
+joints-beside bytes others e s same c n =
+    same-joint (instance bytes) (instance others) (joints-by-capacity bytes) (joints-by-capacity others) s c (λ l. same c n)
 
 -- ---- the charges of every other cabinet are the same
 
@@ -43,8 +52,8 @@ module _ (e : ℕ) (I J : Instance) (E : Changed e I J) where
 
   -- what is charged depends on them and on the cabinet's own record
   node-same : (c x : ℕ) → (c ≡ e → ⊥) → cabinet-charge I c x ≡ cabinet-charge J c x
-  unfolding charges.cabinet-charge plans.admits plans.fits plans.demand-of plans.unbarred plans.fee
-  node-same c x n = rw (E .services, demands, E .capacity c n, E .price c n, bars)
+  unfolding charges.cabinet-charge plans.admits plans.fits plans.demand-of plans.powered plans.unbarred plans.fee
+  node-same c x n = rw (E .services, demands, E .capacity c n, E .price c n, E .joint c n, bars)
 
   link-same : (c x : ℕ) → (c ≡ e → ⊥) → link-charge I c x ≡ link-charge J c x
   unfolding charges.link-charge charges.leaving charges.entering plans.link-fits plans.toll limits.weight limits.frames

@@ -3,11 +3,11 @@ use Prim.Native.Nat.{ℕ}
 use mathlib.Core.Path.{_≡_}
 use Rattle.sheet.specs.Instance.{Instance}
 
--- two families of numbers are the same but at e
-abbrev pub Beside : ℕ → (ℕ → ℕ) → (ℕ → ℕ) → Type 0
+-- two families are the same but at e
+abbrev pub Beside : {A : Type 0} → ℕ → (ℕ → A) → (ℕ → A) → Type 0
 Beside e f g = (c : ℕ) → (c ≡ e → ⊥) → f c ≡ g c
 
--- J is I but for the record of cabinet e, its parent excepted
+-- J is I but for the record of cabinet e, its parent excepted; of two sheets the last line follows from the capacities
 pub record Changed (e : ℕ) (I J : Instance) : Type 0 where
   pub services : I .r ≡ J .r
   pub cabinets : I .s ≡ J .s
@@ -24,3 +24,4 @@ pub record Changed (e : ℕ) (I J : Instance) : Type 0 where
   pub to : (j : ℕ) → I .to j ≡ J .to j
   pub load : (j : ℕ) → I .load j ≡ J .load j
   pub barred : (i c : ℕ) → I .barred i c ≡ J .barred i c
+  pub joint : Beside e (I .joint) (J .joint)
