@@ -21,7 +21,7 @@
 use Prim.Native.Nat.{ℕ, _+_, _-_, _*_, _^_, _≤_, _<_}
 use mathlib.Core.Logic.{_↔_, _⊎_, inl, inr}
 use mathlib.Core.Path.{_≡_, refl, ap, _∙_}
-use mathlib.Core.Bool.{true, _&&_, _||_}
+use mathlib.Core.Bool.{Bool, true, _&&_, _||_}
 use mathlib.Core.List.{List, [], _∷_}
 use lib.Dec.{ltb}
 use lib.ListN.{length, take, getD}
@@ -32,7 +32,7 @@ use Rattle.sheet.specs.Reading.{reading}
 use Rattle.sheet.specs.Instance.{Instance, WellFormed, instance}
 use Rattle.sheet.specs.Said.{Said}
 use Rattle.sheet.specs.Records.{pair-record}
-use Rattle.sheet.specs.Refusals.{number-of, first-applying, giving, first-of, in-order}
+use Rattle.sheet.specs.Refusals.{refusal, number-of, first-applying, giving, first-of, in-order}
 use Rattle.sheet.specs.declared.Sheet.{Sheet}
 use Rattle.sheet.specs.declared.Pair.{Pair}
 use Rattle.sheet.specs.declared.PairRecord.the-variants as pairs
@@ -41,13 +41,14 @@ use Rattle.sheet.specs.declared.Reading.the-variants as readings
 use Rattle.sheet.proofs.Promises.{well-formed, said}
 use Rattle.sheet.proofs.Order.{given-first, reading-first, reading-order}
 use Rattle.subsets.specs.Order.{NotAfter}
+use Rattle.subsets.specs.Sets.{has}
 use Rattle.embedding.specs.Definition1.{member, Feasible, cost}
 use Rattle.embedding.specs.Limits.{Limits}
 use Rattle.embedding.specs.Road.{up, down, road}
-use Rattle.embedding.specs.Plan.{place, routes, carried, cheapest}
+use Rattle.embedding.specs.Plan.{place, routes, carried, in-range, bars-keep, cheapest}
 use Rattle.embedding.specs.First.{first-plan, places}
-use Rattle.embedding.specs.Splits.{weighed}
-use Rattle.embedding.proofs.Theorems.{plan-iff-mapping, framed-edge, cheapest-mapping}
+use Rattle.embedding.specs.Splits.{keeps, placeable, weighed}
+use Rattle.embedding.proofs.Theorems.{plan-iff-mapping, framed-edge, cheapest-mapping, empty-placeable}
 use Rattle.checker.specs.Check as check
 use Rattle.checker.specs.Check.{checked}
 use Rattle.checker.specs.Answers as checks
@@ -67,9 +68,11 @@ use Rattle.planner.specs.declared.Planned.{Planned}
 use Rattle.planner.specs.declared.Planned.the-variants.{Plan, Refused}
 use Rattle.planner.proofs.Order.{plan-first, plan-order}
 use Rattle.edit.specs.Calls.{Call, called, asked}
+use Rattle.edit.specs.Changed.{Beside}
 use Rattle.edit.specs.Edits.{rules-before, edit-numbers, number-before, Edits}
 use Rattle.edit.specs.Lists.{Kind, Does, Turn, OnSpan, nothing, InTheRule, AllFresh}
 use Rattle.edit.specs.Roads.{Road, one, other, Shared, own, OnTables, Order, orders, AgreeOn, Alike, Same, AllPairs}
+use Rattle.edit.proofs.Changing.{joints-beside}
 use Rattle.edit.proofs.Possible.{some-outcome}
 use Rattle.edit.proofs.Lists as lists
 use Rattle.edit.proofs.Roads as both
@@ -93,6 +96,7 @@ use Rattle.tidy.proofs.Answers.{tidy-first, tidy-order, room-iff, copy-longest}
 use Rattle.theorems.proofs.Billing as billing
 use Rattle.theorems.proofs.Copying as copying
 use Rattle.theorems.proofs.Editing as editing
+use Rattle.theorems.proofs.Joints as joints
 use Rattle.theorems.proofs.Planning as planning
 use Rattle.theorems.proofs.Roads as roads
 use Rattle.theorems.specs.Promised.{Given, Maps, NoneCheaper, Best, Left, KeptLeft, SheetLeft, LinesLeft, OutsideStays}
@@ -321,6 +325,34 @@ pub framing-counted :
     + 2 * sum-below (instance bytes .q) (λ j. only (member e (routes (instance bytes) π j) && ltb 0 (instance bytes .load j)) 1)
 framing-counted bytes h reads = framed-edge (instance bytes) (well-formed bytes h reads)
 
+-- ---- Joints
+
+-- A cabinet of capacity 0 is a joint. On every sheet that the reader accepts, a plan that has a place for each service, each a cabinet of the road from
+-- which it is not barred, and has a service on a joint, whatever its demand, gets 15. (`checker::check`.)
+pub joint-refused :
+    (bytes : List ℕ) (h : Sheet) → reading bytes ≡ readings.Accepted h →
+    (written : List ℕ) → length written ≡ instance bytes .r →
+    in-range (instance bytes) (place written) ≡ true → bars-keep (instance bytes) (place written) ≡ true →
+    (i : ℕ) → i < instance bytes .r → instance bytes .capacity (place written i) ≡ 0 →
+    checked bytes written ≡ answers.Refused (refusal 15)
+joint-refused = joints.refused
+
+-- So no plan that is accepted, and by `written-accepted` none that is written, has a service on a joint. (`checker::check`.)
+pub accepted-off-joints :
+    (bytes written : List ℕ) (k : ℕ) → checked bytes written ≡ answers.Accepted k →
+    (i : ℕ) → i < instance bytes .r → 0 < instance bytes .capacity (place written i)
+accepted-off-joints = joints.accepted
+
+-- Nor has a set of services that is placed on a part of the road, which decides what is counted; and the empty set can always be placed.
+pub placed-off-joints :
+    (bytes : List ℕ) (part : ℕ → Bool) (top a : ℕ) (π : ℕ → ℕ) → keeps (instance bytes) part top a π ≡ true →
+    (i : ℕ) → i < instance bytes .r → has a i ≡ true → 0 < instance bytes .capacity (π i)
+placed-off-joints = joints.placed
+
+pub empty-set-placed :
+    (bytes : List ℕ) (h : Sheet) → reading bytes ≡ readings.Accepted h → (c : ℕ) → placeable (instance bytes) c 0 ≡ true
+empty-set-placed bytes h reads = empty-placeable (instance bytes) (well-formed bytes h reads)
+
 -- ---- The carrier's bill
 
 -- Any bytes, any plan and any tariff, with any places lent, get net, tax and total or one refusal, from 1 to 9, from 13 to 16, from 18 to 20, or 22, in
@@ -434,6 +466,12 @@ keep-memory = planning.left-kept
 pub edits-fresh :
     (s : Span) (t u : List ℕ) (cs : List Turn) → OnSpan s t u cs → InTheRule nothing cs → AllFresh cs
 edits-fresh s t u cs on rule = lists.all-fresh cs s nothing t u tt on rule
+
+-- That the joints of two sheets are the same but at one cabinet, which `Changed` names too, follows from what it says of the capacities.
+pub joints-follow :
+    (bytes others : List ℕ) (e : ℕ) → instance bytes .s ≡ instance others .s →
+    Beside e (instance bytes .capacity) (instance others .capacity) → Beside e (instance bytes .joint) (instance others .joint)
+joints-follow = joints-beside
 
 -- The contract of an edit can be met: for every sheet, number, memory and span some answer and some memory after it stand in it.
 pub edit-possible :

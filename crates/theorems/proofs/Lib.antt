@@ -5,5 +5,6 @@ mod Roads
 mod Copying
 mod Billing
 mod Editing
+mod Joints
 pub mod Demands
 pub mod Cases

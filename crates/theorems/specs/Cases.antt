@@ -23,7 +23,7 @@ use Rattle.bill.specs.declared.Billed.the-variants as bill
 use Rattle.lending.specs.Spans.{span-of}
 use Rattle.lending.specs.declared.Span.{Span}
 use Rattle.planner.specs.Answers as planner
-use Rattle.planner.specs.Answers.{entries, cost, planned}
+use Rattle.planner.specs.Answers.{entries, planned}
 use Rattle.planner.specs.Lent.{used}
 use Rattle.planner.specs.Kept.{kept-costs, kept-choices}
 use Rattle.planner.specs.declared.Planned.{Planned}
@@ -41,8 +41,6 @@ pub data Case : Type 0 where
   check : List ℕ → List ℕ → Checked → Case
   -- the planner, of bytes, with memory that just suffices
   plan : List ℕ → Planned → Case
-  -- the planner's cost
-  plan-costs : List ℕ → ℕ → Case
   -- every valid plan of this cost puts this service on this cabinet
   puts : List ℕ → ℕ → ℕ → ℕ → Case
   -- the planner, with memory that just suffices: there is a plan, and this is what it writes
@@ -72,7 +70,6 @@ abbrev pub Holds : Case → Type 0
 Holds (read bytes n) = number (reading bytes) ≡ n
 Holds (check bytes written answer) = checked bytes written ≡ answer
 Holds (plan bytes answer) = answer-to bytes ≡ answer
-Holds (plan-costs bytes k) = cost (answer-to bytes) ≡ k
 Holds (puts bytes k i c) = all-put (instance bytes) k i c ≡ true
 Holds (writes bytes written) = (planner.number (answer-to bytes) ≡ 0) × (places (instance bytes .r) (first-plan (instance bytes)) ≡ written)
 Holds (tidies bytes copy) = (tidy-answer bytes (length copy) ≡ Bytes (length copy)) × (tidied (instance bytes) ≡ copy)
@@ -135,17 +132,43 @@ m-carrying up streams =
     ∷ 0 ∷ 3 ∷ 2 ∷ 2 ∷ 1 ∷ 6 ∷ 1 ∷ streams
     )
 
--- road Z: M0 with a third service of demand 0, and streams of 3 from it to each of the others
-abbrev pub road-z : List ℕ
-road-z =
+-- road Z, M0 with a third service of demand 0, and streams of 3 from it to each of the others; with a fourth block at an offset, of these words
+abbrev pub z-with : ℕ → List ℕ → List ℕ
+z-with at block =
     from-words (
-    3 ∷ 3 ∷ 2 ∷ 16 ∷ 22 ∷ 64 ∷ 76 ∷ 0
+    3 ∷ 3 ∷ 2 ∷ 16 ∷ 22 ∷ 64 ∷ (76 + 2 * length block) ∷ at
     ∷ 2 ∷ 2 ∷ 0
     ∷ 65535 ∷ 0 ∷ 5 ∷ 0 ∷ 0 ∷ 0 ∷ 0
     ∷ 0 ∷ 3 ∷ 1 ∷ 6 ∷ 2 ∷ 6 ∷ 1
     ∷ 0 ∷ 3 ∷ 2 ∷ 2 ∷ 1 ∷ 6 ∷ 1
     ∷ 2 ∷ 0 ∷ 3
-    ∷ 2 ∷ 1 ∷ 3 ∷ []
+    ∷ 2 ∷ 1 ∷ 3 ∷ block
+    )
+
+-- without one
+abbrev pub road-z : List ℕ
+road-z = z-with 0 []
+
+-- a chain of three cabinets with these capacities, two services of demand 0, and a stream of 1 from the first to the second, which the link to the last
+-- cabinet carries upwards only
+abbrev pub chain : ℕ → ℕ → ℕ → List ℕ
+chain top middle end =
+    from-words (
+    2 ∷ 3 ∷ 1 ∷ 16 ∷ 20 ∷ 62 ∷ 68 ∷ 0
+    ∷ 0 ∷ 0
+    ∷ 65535 ∷ top ∷ 1 ∷ 0 ∷ 0 ∷ 0 ∷ 0
+    ∷ 0 ∷ middle ∷ 1 ∷ 3 ∷ 1 ∷ 3 ∷ 2
+    ∷ 1 ∷ end ∷ 1 ∷ 3 ∷ 1 ∷ 2 ∷ 1
+    ∷ 0 ∷ 1 ∷ 1 ∷ []
+    )
+
+-- no service, two joints, no stream
+abbrev pub two-joints : List ℕ
+two-joints =
+    from-words (
+    0 ∷ 2 ∷ 0 ∷ 16 ∷ 16 ∷ 44 ∷ 44 ∷ 0
+    ∷ 65535 ∷ 0 ∷ 0 ∷ 0 ∷ 0 ∷ 0 ∷ 0
+    ∷ 0 ∷ 0 ∷ 0 ∷ 0 ∷ 0 ∷ 0 ∷ 0 ∷ []
     )
 
 -- a root with one child of all zeros, and one service of 3
@@ -186,9 +209,9 @@ cases =
     ∷ writes (road 0 6) (1 ∷ 2 ∷ [])
     ∷ plan (road 0 5) (plans.Plan 15 12)
     ∷ plan (road 0 4) (plans.Refused (refusal 12) 10)
-    ∷ plan-costs road-z 12
-    ∷ puts road-z 12 2 0
-    ∷ writes road-z (1 ∷ 2 ∷ 0 ∷ [])
+    ∷ plan road-z (plans.Plan 15 28)
+    ∷ puts road-z 15 2 1
+    ∷ writes road-z (1 ∷ 2 ∷ 1 ∷ [])
     ∷ plan one-child (plans.Plan 3 3)
     ∷ check m-barred (0 ∷ 1 ∷ []) (Refused (refusal 20))
     ∷ check m-barred (1 ∷ 2 ∷ []) (Accepted 15)
@@ -270,4 +293,27 @@ cases =
     ∷ spans road-m 2 30 30 (span-of 5 11) (plans.Refused (refusal 11) 0)
     ∷ spans road-m 2 30 30 (span-of 25 11) (plans.Refused (refusal 24) 0)
     ∷ spans road-m 1 30 30 (span-of 25 11) (plans.Refused (refusal 10) 0)
+    -- 02 (i): on Z the root is a joint, so that the service of demand 0 may not stand there; 20 and 14 come before that
+    ∷ check road-z (1 ∷ 2 ∷ 1 ∷ []) (Accepted 15)
+    ∷ check road-z (1 ∷ 2 ∷ 0 ∷ []) (Refused (refusal 15))
+    ∷ check (z-with 76 (1 ∷ 2 ∷ 0 ∷ [])) (1 ∷ 2 ∷ 0 ∷ []) (Refused (refusal 20))
+    ∷ check road-z (1 ∷ 3 ∷ 0 ∷ []) (Refused (refusal 14))
+    -- a joint at the end of the chain, with an overfull link too; no joint there, and that link is left; a stream through a joint in the middle
+    ∷ check (chain 1 1 0) (0 ∷ 2 ∷ []) (Refused (refusal 15))
+    ∷ check (chain 1 0 1) (0 ∷ 2 ∷ []) (Refused (refusal 16))
+    ∷ check (chain 1 0 1) (2 ∷ 0 ∷ []) (Accepted 2)
+    ∷ check (chain 1 0 1) (0 ∷ 1 ∷ []) (Refused (refusal 15))
+    -- plans with joints in the middle, at both other ends, above the end, and everywhere; no service, and joints only
+    ∷ plan (chain 1 0 1) (plans.Plan 0 13)
+    ∷ writes (chain 1 0 1) (0 ∷ 0 ∷ [])
+    ∷ plan (chain 0 1 0) (plans.Plan 0 13)
+    ∷ writes (chain 0 1 0) (1 ∷ 1 ∷ [])
+    ∷ plan (chain 0 0 1) (plans.Plan 0 8)
+    ∷ writes (chain 0 0 1) (2 ∷ 2 ∷ [])
+    ∷ plan (chain 0 0 0) (plans.Refused (refusal 12) 8)
+    ∷ plan two-joints (plans.Plan 0 1)
+    -- what tables kept of a chain hold, with a joint in the middle, and of joints only
+    ∷ keeps (chain 1 0 1) (0 ∷ 0 ∷ 0 ∷ 0 ∷ 0 ∷ 1 ∷ no-way ∷ 0 ∷ 0 ∷ 0 ∷ 0 ∷ 0 ∷ []) (0 ∷ 0 ∷ 0 ∷ 0 ∷ 9 ∷ 1 ∷ 2 ∷ 3 ∷ 4 ∷ 0 ∷ 0 ∷ 0 ∷ [])
+    ∷ keeps (chain 0 0 0) (0 ∷ no-way ∷ no-way ∷ no-way ∷ 0 ∷ no-way ∷ no-way ∷ no-way ∷ 0 ∷ no-way ∷ no-way ∷ no-way ∷ [])
+    (0 ∷ 0 ∷ 0 ∷ 0 ∷ 4 ∷ 0 ∷ 0 ∷ 0 ∷ 4 ∷ 0 ∷ 0 ∷ 0 ∷ [])
     ∷ []
