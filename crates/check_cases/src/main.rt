@@ -6,6 +6,7 @@ ghost use lib.ListN.{length};
 
 mod bars; // bars.rt: road M with barred pairs
 mod framing; // framing.rt: road M with streams whose framing fills a link
+mod joints; // joints.rt: road M with services of demand 0 and with joints
 
 use checker::Checked;
 use sheet::Refusal;
@@ -129,7 +130,7 @@ const PAIR_TOO_MUCH: [u16; 37] = [
     2,
 ];
 
-// Case Z: the root has capacity 0, and service 2 has demand 0.
+// Case Z: the root is a joint, and service 2 has demand 0.
 const ROAD_Z: [u16; 38] = [
     3,
     3,
@@ -328,8 +329,10 @@ fn pairs() {
 fn road_z() {
     let mut bytes = [0u8; 76];
     put_all(&mut bytes, &ROAD_Z);
-    let plan = [1u16, 2, 0];
-    report(&bytes, &plan);
+    let on_the_root = [1u16, 2, 0];
+    report(&bytes, &on_the_root);
+    let beside_it = [1u16, 2, 1];
+    report(&bytes, &beside_it);
 }
 
 fn sums() {
@@ -447,4 +450,5 @@ fn main() {
     long_road(true, 5, STAR_LOAD - 1);
     bars::run();
     framing::run();
+    joints::run();
 }
