@@ -26,7 +26,11 @@ fn every_span(tally: &Tally) {
         let times = tally.times("edit in a span", refusal);
         assert!(times > 0, "edit in a span: {refusal}");
     }
-    assert!(tally.joint_lists() > 500, "{} lists", tally.joint_lists());
+    assert!(
+        tally.sharing_lists() > 500,
+        "{} lists",
+        tally.sharing_lists()
+    );
 }
 
 #[test]

@@ -43,7 +43,7 @@ pub enum Event {
     /// This call on a span that lies so.
     Span(Call, Spot),
     /// This in a list of calls on two spans of the same tables.
-    Joint(Turn),
+    Sharing(Turn),
 }
 
 impl Event {
@@ -71,7 +71,7 @@ impl Event {
             let spots = Spot::ALL.into_iter().filter(|spot| spot.is_of(call));
             all.extend(spots.map(|spot| Event::Span(call, spot)));
         }
-        all.extend(Turn::ALL.map(Event::Joint));
+        all.extend(Turn::ALL.map(Event::Sharing));
         all
     }
 }

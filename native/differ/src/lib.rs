@@ -10,13 +10,13 @@ mod editor;
 mod event;
 mod figures;
 mod guarded;
-mod joint;
 mod keeper;
 mod memory;
 mod order;
 mod planner;
 mod reader;
 mod refused;
+mod sharing;
 mod spans;
 mod spot;
 mod subject;
@@ -26,8 +26,8 @@ mod writer;
 
 pub use event::Event;
 pub use figures::compare_bounds;
-pub use joint::compare_joint;
 pub use memory::Call;
+pub use sharing::compare_sharing;
 pub use spans::compare_spans;
 pub use spot::Spot;
 pub use subject::{Spanned, Subject};
@@ -42,7 +42,7 @@ use second::random::{Case, Random};
 use second::{Sheet, Tables};
 
 /// Once in so many small roads there is a list of calls on its span and on another road's.
-const JOINT: usize = 2;
+const SHARING: usize = 2;
 
 /// Makes all calls of a case, and some of those that take no sheet. The error tells the first
 /// difference.
@@ -124,8 +124,8 @@ fn spans(
     }
     spans::spans(subject, road, random, tally)?;
     match small {
-        Some((records, _)) if random.once_in(JOINT) => {
-            compare_joint(subject, records, random, tally)
+        Some((records, _)) if random.once_in(SHARING) => {
+            compare_sharing(subject, records, random, tally)
         }
         _ => Ok(()),
     }

@@ -21,7 +21,7 @@ pub struct Tally {
     framed_roads: usize,
     features: BTreeMap<Feature, usize>,
     lists: usize,
-    joint_lists: usize,
+    sharing_lists: usize,
     events: BTreeMap<Event, usize>,
     forms: BTreeMap<Form, usize>,
 }
@@ -103,13 +103,13 @@ impl Tally {
     }
 
     /// Notes a list of calls on two spans.
-    pub fn joint_list(&mut self) {
-        self.joint_lists += 1;
+    pub fn sharing_list(&mut self) {
+        self.sharing_lists += 1;
     }
 
     /// How many lists of calls on two spans there were.
-    pub fn joint_lists(&self) -> usize {
-        self.joint_lists
+    pub fn sharing_lists(&self) -> usize {
+        self.sharing_lists
     }
 
     /// Notes what came up among edits or calls on spans.
@@ -169,7 +169,7 @@ impl Display for Tally {
         }
         writeln!(f, "lists of edits, calls on spans, and what came up:")?;
         writeln!(f, "{:9} lists of edits", self.lists)?;
-        writeln!(f, "{:9} lists of calls on two spans", self.joint_lists)?;
+        writeln!(f, "{:9} lists of calls on two spans", self.sharing_lists)?;
         for (event, times) in &self.events {
             writeln!(f, "{times:9} {event:?}")?;
         }

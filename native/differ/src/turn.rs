@@ -1,6 +1,6 @@
 //! What is told apart in lists of calls on two spans of the same tables.
 
-use second::random::joint::Spans;
+use second::random::sharing::Spans;
 
 /// What came up in such a list, or how its spans lie.
 #[derive(Clone, Copy, Debug, PartialEq, Eq, PartialOrd, Ord)]

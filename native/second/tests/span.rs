@@ -2,8 +2,8 @@
 
 use second::build::tight;
 use second::measured::{m, m_records};
-use second::random::joint::{other_road, side_by_side};
 use second::random::road::road;
+use second::random::sharing::{other_road, side_by_side};
 use second::random::span::span;
 use second::random::{Lent, Random, Size};
 use second::span::{accepted, lent_span};

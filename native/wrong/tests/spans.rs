@@ -1,6 +1,6 @@
 //! Every fault of spans is seen by random calls, and by the spans written down alone.
 
-use differ::{Call, Event, Spot, Tally, compare_joint, compare_spans};
+use differ::{Call, Event, Spot, Tally, compare_sharing, compare_spans};
 use second::random::road::road;
 use second::random::{Random, Size};
 use wrong::{Fault, Faulty, Slip, first_difference};
@@ -72,7 +72,7 @@ fn what_goes_wrong_between_two_roads_is_seen_by_lists_of_calls() {
         let (mut random, mut tally) = (Random::new(9), Tally::default());
         let differs = (0..500).any(|_| {
             let (_, records) = road(&mut random, size);
-            compare_joint(&Faulty(Some(fault)), &records, &mut random, &mut tally).is_err()
+            compare_sharing(&Faulty(Some(fault)), &records, &mut random, &mut tally).is_err()
         });
         assert!(differs, "not seen: {}", fault.sentence());
     }

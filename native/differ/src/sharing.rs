@@ -10,13 +10,13 @@ use crate::turn::Turn;
 use crate::{Subject, Tally};
 use second::hex::dump;
 use second::random::edits::Edits;
-use second::random::joint::{Spans, other_road, side_by_side};
+use second::random::sharing::{Spans, other_road, side_by_side};
 use second::random::{Lent, Random};
 use second::{Answer, Sheet, Span, Tables};
 use std::mem::swap;
 
 /// A list of calls for this road and a smaller one of other numbers, by turns.
-pub fn compare_joint(
+pub fn compare_sharing(
     subject: &dyn Subject,
     records: &Sheet,
     random: &mut Random,
@@ -104,9 +104,9 @@ impl Office<'_> {
         tally: &mut Tally,
     ) -> Office<'a> {
         let drawn = side_by_side(random, records.map(Sheet::entries));
-        tally.joint_list();
+        tally.sharing_list();
         for turn in Turn::of(&drawn, records.map(Sheet::entries)) {
-            tally.event(Event::Joint(turn));
+            tally.event(Event::Sharing(turn));
         }
         let Spans {
             spans,
@@ -172,10 +172,10 @@ impl Office<'_> {
                 _ => Turn::NoPlan,
             };
             let turns = since.into_iter().chain([last]);
-            turns.for_each(|turn| tally.event(Event::Joint(turn)));
+            turns.for_each(|turn| tally.event(Event::Sharing(turn)));
         }
         if road.kept && !kept {
-            tally.event(Event::Joint(Turn::Cleared));
+            tally.event(Event::Sharing(Turn::Cleared));
         }
         road.kept = kept;
     }
@@ -199,7 +199,7 @@ impl Office<'_> {
         self.call(which, &order, (&right, &Tables::default()), random)?;
         tally.answer(order.asked.on(order.span).name(), refusal);
         if refusal == 24 {
-            tally.event(Event::Joint(Turn::Past));
+            tally.event(Event::Sharing(Turn::Past));
         }
         for road in &mut self.roads {
             road.since.push(Turn::AfterRefused);
