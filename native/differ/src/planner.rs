@@ -4,6 +4,7 @@ use crate::alike::Alike;
 use crate::guarded::Guarded;
 use crate::memory::{Asked, Memory};
 use crate::{Subject, Tally};
+use plain::Rules;
 use second::plan::{MOST_PLANS, plans};
 use second::random::{Lent, Random};
 use second::span::cleared;
@@ -41,7 +42,7 @@ fn framing_decides(sheet: &[u8], right: &Answer) -> bool {
         12 => (None, right.count),
         _ => return false,
     };
-    second::read(sheet).is_ok_and(|records| plain::figures(&records, 0) != figures)
+    second::read(sheet).is_ok_and(|records| plain::figures(&records, Rules::UNFRAMED) != figures)
 }
 
 /// One call, which must give this answer and clear the entries that it worked in.

@@ -1,6 +1,6 @@
 //! What a cabinet and a link charge for each set of services.
 
-use crate::NONE;
+use crate::{NONE, Rules};
 use second::{Cabinet, Sheet};
 
 /// The streams that cross the link of a set in one direction.
@@ -13,9 +13,9 @@ struct Crossing {
 }
 
 /// For each set: the demand of its services, and the streams that leave and enter it. For each
-/// cabinet: the set of services that are barred from it. What the framing of a stream takes.
+/// cabinet: the set of services that it may not hold. What the framing of a stream takes.
 pub struct Charges {
-    barred: Vec<usize>,
+    kept_off: Vec<usize>,
     demand: Vec<u64>,
     out: Vec<Crossing>,
     into: Vec<Crossing>,
@@ -23,7 +23,7 @@ pub struct Charges {
 }
 
 impl Charges {
-    pub fn new(sheet: &Sheet, framing: u64) -> Charges {
+    pub fn new(sheet: &Sheet, rules: Rules) -> Charges {
         let sets = 0..1_usize << sheet.services.len();
         let demand = |set: usize| {
             let services = sheet.services.iter().enumerate();
@@ -31,19 +31,19 @@ impl Charges {
             inside.map(|(_, &demand)| u64::from(demand)).sum()
         };
         Charges {
-            barred: barred(sheet),
+            kept_off: kept_off(sheet, rules),
             demand: sets.clone().map(demand).collect(),
             out: sets.clone().map(|set| crossing(sheet, set, true)).collect(),
             into: sets.map(|set| crossing(sheet, set, false)).collect(),
-            framing,
+            framing: rules.framing,
         }
     }
 
     /// The row of cabinet c when it holds each set alone.
     pub fn cabinet(&self, c: usize, cabinet: &Cabinet, row: &mut [u64]) {
-        let barred = self.barred[c];
+        let kept_off = self.kept_off[c];
         for (set, (figure, &demand)) in row.iter_mut().zip(&self.demand).enumerate() {
-            *figure = if set & barred == 0 && demand <= u64::from(cabinet.capacity) {
+            *figure = if set & kept_off == 0 && demand <= u64::from(cabinet.capacity) {
                 demand * u64::from(cabinet.price)
             } else {
                 NONE
@@ -81,11 +81,17 @@ fn crossing(sheet: &Sheet, set: usize, leaving: bool) -> Crossing {
     crossing
 }
 
-/// The services barred from each cabinet, as a set.
-fn barred(sheet: &Sheet) -> Vec<usize> {
-    let mut barred = vec![0; sheet.cabinets.len()];
+/// The services that each cabinet may not hold, as a set: those barred from it, and all of them if it
+/// is a joint.
+fn kept_off(sheet: &Sheet, rules: Rules) -> Vec<usize> {
+    let all = (1 << sheet.services.len()) - 1;
+    let of = |cabinet: &Cabinet| match rules.joints && cabinet.is_joint() {
+        true => all,
+        false => 0,
+    };
+    let mut kept_off: Vec<usize> = sheet.cabinets.iter().map(of).collect();
     for pair in &sheet.barred {
-        barred[usize::from(pair.cabinet)] |= 1 << pair.service;
+        kept_off[usize::from(pair.cabinet)] |= 1 << pair.service;
     }
-    barred
+    kept_off
 }

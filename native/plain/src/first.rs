@@ -1,12 +1,11 @@
 //! The first of the cheapest plans, found by asking for the least cost alone.
 
-use crate::figures;
-use second::framing::FRAMING;
+use crate::{Rules, figures};
 use second::{Pair, Sheet};
 
 /// The cost of a cheapest plan, if there is a valid one.
 fn least_cost(sheet: &Sheet) -> Option<u64> {
-    figures(sheet, FRAMING).0
+    figures(sheet, Rules::ALL).0
 }
 
 /// The first of the cheapest plans, if there is a valid one. Each service in turn goes to the

@@ -2,9 +2,8 @@
 
 use crate::charges::Charges;
 use crate::keyed::{Key, Row, digits, key};
-use crate::{NONE, children};
+use crate::{NONE, Rules, children};
 use second::check::check_sheet;
-use second::framing::FRAMING;
 use second::path::ancestors;
 use second::{Answer, Sheet, Tables};
 
@@ -88,7 +87,7 @@ impl Road<'_> {
     fn new(sheet: &Sheet) -> Road<'_> {
         Road {
             sheet,
-            charges: Charges::new(sheet, FRAMING),
+            charges: Charges::new(sheet, Rules::ALL),
             children: children(sheet),
             row: 1 << sheet.services.len(),
         }

@@ -8,12 +8,13 @@ mod first;
 mod join;
 mod kept;
 mod keyed;
+mod rules;
 
 pub use first::first_plan;
 pub use kept::{Edited, answer, edit, tables};
+pub use rules::Rules;
 
 use charges::Charges;
-use second::framing::FRAMING;
 use second::plan::lent;
 use second::{Answer, Sheet, read};
 
@@ -35,7 +36,7 @@ pub fn plan(sheet: &[u8], output: &mut [u16], costs: &mut [u64], choices: &mut [
     let entries = sheet.entries();
     let costs = &mut costs[..entries];
     let choices = &mut choices[..entries];
-    let count = fill(&sheet, FRAMING, costs, choices);
+    let count = fill(&sheet, Rules::ALL, costs, choices);
     let all = (1 << sheet.services.len()) - 1;
     let cost = costs[all];
     if cost < NONE {
@@ -55,13 +56,13 @@ pub fn plan(sheet: &[u8], output: &mut [u16], costs: &mut [u64], choices: &mut [
     }
 }
 
-/// The cost of a cheapest plan, if there is a valid one, and the count of splits weighed, if the
-/// framing of a stream took so much.
-pub fn figures(sheet: &Sheet, framing: u64) -> (Option<u64>, u64) {
+/// The cost of a cheapest plan, if there is a valid one, and the count of splits weighed, by these
+/// rules.
+pub fn figures(sheet: &Sheet, rules: Rules) -> (Option<u64>, u64) {
     let row = 1 << sheet.services.len();
     let entries = sheet.cabinets.len() * row;
     let mut costs = vec![0; entries];
-    let count = fill(sheet, framing, &mut costs, &mut vec![0; entries]);
+    let count = fill(sheet, rules, &mut costs, &mut vec![0; entries]);
     (Some(costs[row - 1]).filter(|&cost| cost < NONE), count)
 }
 
@@ -75,9 +76,9 @@ fn children(sheet: &Sheet) -> Vec<Vec<usize>> {
 }
 
 /// Fills the rows from the last cabinet to the root and counts the splits weighed.
-fn fill(sheet: &Sheet, framing: u64, costs: &mut [u64], choices: &mut [u16]) -> u64 {
+fn fill(sheet: &Sheet, rules: Rules, costs: &mut [u64], choices: &mut [u16]) -> u64 {
     let row = 1 << sheet.services.len();
-    let charges = Charges::new(sheet, framing);
+    let charges = Charges::new(sheet, rules);
     let mut link = vec![0; row];
     let mut count = 0;
     for (p, children) in children(sheet).iter().enumerate().rev() {

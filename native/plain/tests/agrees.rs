@@ -1,7 +1,6 @@
 //! The planner by rows answers as the second planner does.
 
-use plain::figures;
-use second::framing::FRAMING;
+use plain::{Rules, figures};
 use second::measured::m_records;
 use second::random::{Case, Random, Size, case};
 use second::{barred, check, framed, plan, read};
@@ -39,7 +38,7 @@ fn random_cases() {
             continue;
         };
         with_bars += usize::from(!sheet.barred.is_empty());
-        framed += usize::from(figures(&sheet, 0) != figures(&sheet, FRAMING));
+        framed += usize::from(figures(&sheet, Rules::UNFRAMED) != figures(&sheet, Rules::ALL));
     }
     assert!(with_bars > 500, "{with_bars} roads with barred pairs");
     assert!(framed > 80, "{framed} roads that framing matters for");
@@ -70,6 +69,10 @@ fn m0_with_more_and_less_framing() {
         (5, 3, (None, 10)),
     ] {
         sheet.cabinets[1].up_capacity = up;
-        assert_eq!(figures(&sheet, framing), right, "{up}, {framing}");
+        let rules = Rules {
+            framing,
+            ..Rules::ALL
+        };
+        assert_eq!(figures(&sheet, rules), right, "{up}, {framing}");
     }
 }

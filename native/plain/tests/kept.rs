@@ -1,7 +1,6 @@
 //! The tables by rows are those by definition, and edits of kept tables leave what keeping leaves.
 
-use plain::{answer, edit, figures, first_plan, tables};
-use second::framing::FRAMING;
+use plain::{Rules, answer, edit, figures, first_plan, tables};
 use second::keep::{NONE, placings};
 use second::measured::m_records;
 use second::plan::{MOST_PLANS, plans, solve};
@@ -78,7 +77,7 @@ fn large_roads() {
             (&sheet, answer(&sheet, &tables(&sheet))),
             (edits.sheet(), edited.answer),
         ] {
-            let (cost, count) = figures(sheet, FRAMING);
+            let (cost, count) = figures(sheet, Rules::ALL);
             assert_eq!((given.cost, given.count), (cost.unwrap_or(0), count));
             assert_eq!(given.plan, first_plan(sheet));
             planned += usize::from(cost.is_some());

@@ -23,11 +23,12 @@ impl Line {
     }
 }
 
-/// The demand on each cabinet, and what is on each direction of each link; a link goes by the
-/// cabinet below.
+/// The demand and the number of services on each cabinet, and what is on each direction of each
+/// link; a link goes by the cabinet below.
 #[derive(Clone, Debug, PartialEq, Eq)]
 pub struct Loads {
     pub cabinets: Vec<u64>,
+    pub services: Vec<usize>,
     pub up: Vec<Line>,
     pub down: Vec<Line>,
 }
@@ -36,9 +37,16 @@ impl Loads {
     pub fn new(cabinets: usize) -> Loads {
         Loads {
             cabinets: vec![0; cabinets],
+            services: vec![0; cabinets],
             up: vec![Line::default(); cabinets],
             down: vec![Line::default(); cabinets],
         }
+    }
+
+    /// Puts a service of this demand on a cabinet.
+    pub fn place(&mut self, cabinet: usize, demand: u16) {
+        self.cabinets[cabinet] += u64::from(demand);
+        self.services[cabinet] += 1;
     }
 
     /// Puts a stream of this demand on every link of its path.
@@ -51,8 +59,14 @@ impl Loads {
         }
     }
 
-    /// The cabinet holds no more than its capacity.
+    /// The cabinet is not overfull, and if it is a joint, no service is on it.
     pub fn holds(&self, sheet: &Sheet, c: usize) -> bool {
+        let stray = self.services[c] > 0 && sheet.cabinets[c].is_joint();
+        self.fits(sheet, c) && !stray
+    }
+
+    /// The demands on the cabinet are no more than its capacity.
+    pub fn fits(&self, sheet: &Sheet, c: usize) -> bool {
         self.cabinets[c] <= u64::from(sheet.cabinets[c].capacity)
     }
 
@@ -97,6 +111,14 @@ pub fn only_framing(sheet: &Sheet, plan: &[u16]) -> bool {
     }
 }
 
+/// The plan gets 15 for a service on a joint: no cabinet is overfull.
+pub fn only_joints(sheet: &Sheet, plan: &[u16]) -> bool {
+    check_sheet(sheet, plan) == Err(15) && {
+        let loads = loads(sheet, plan, |from, to| path(sheet, from, to));
+        (0..sheet.cabinets.len()).all(|c| loads.fits(sheet, c))
+    }
+}
+
 /// Validity and cost of a plan that has a cabinet of the road for each service.
 pub fn judge<P: AsRef<[Step]>>(
     sheet: &Sheet,
@@ -126,7 +148,7 @@ pub fn loads<P: AsRef<[Step]>>(
 ) -> Loads {
     let mut loads = Loads::new(sheet.cabinets.len());
     for (&cabinet, &demand) in plan.iter().zip(&sheet.services) {
-        loads.cabinets[usize::from(cabinet)] += u64::from(demand);
+        loads.place(usize::from(cabinet), demand);
     }
     for stream in &sheet.streams {
         let place = |service: u16| usize::from(plan[usize::from(service)]);

@@ -152,8 +152,8 @@ impl Road<'_> {
     }
 
     /// What a placing costs on the cabinets of the part and the links between them, if it is within
-    /// their capacities and uses no barred pair. The end of a stream whose service is not placed
-    /// counts as being on the top.
+    /// their capacities and uses no barred pair and no joint. The end of a stream whose service is
+    /// not placed counts as being on the top.
     fn charge(&self, part: &Part, places: &Places) -> Option<u64> {
         let mut loads = Loads::new(self.sheet.cabinets.len());
         for (service, &cabinet) in places.iter().enumerate() {
@@ -161,7 +161,7 @@ impl Road<'_> {
             if self.bars.bar(service, cabinet) {
                 return None;
             }
-            loads.cabinets[cabinet] += u64::from(self.sheet.services[service]);
+            loads.place(cabinet, self.sheet.services[service]);
         }
         for stream in &self.sheet.streams {
             let end = |service: u16| places[usize::from(service)].unwrap_or(part.top);

@@ -106,7 +106,7 @@ pub fn roads() -> Vec<Measured> {
         road("M0, up capacity 4", m_with(0, 4), 12, 0, Some(10), &[]),
         road("M0, up capacity 3", m_with(0, 3), 12, 0, Some(10), &[]),
         road("M0, up capacity 2", m_with(0, 2), 12, 0, Some(10), &[]),
-        road("Z", z(), 0, 12, None, &[1, 2, 0]),
+        road("Z", z(), 0, 15, Some(28), &[1, 2, 1]),
         road("root with one child", one_child(), 0, 3, Some(3), &[0]),
         road("30 bytes", least(), 0, 0, Some(0), &[]),
         road(

@@ -45,6 +45,12 @@ impl Sheet {
 }
 
 impl Cabinet {
+    /// It is a joint without a power box: no service may be placed on it, whatever its demand.
+    /// Streams pass through it.
+    pub fn is_joint(&self) -> bool {
+        self.capacity == 0
+    }
+
     /// The cabinet with these words in the order of the sheet.
     pub fn from_words(words: [u16; 7]) -> Cabinet {
         let [

@@ -41,8 +41,8 @@ pub fn part_before(sheet: &Sheet, c: usize) -> Vec<usize> {
     (0..sheet.cabinets.len()).filter(inside).collect()
 }
 
-/// Some placing of the services of `mask` on the part uses no barred pair and keeps every capacity
-/// of the part.
+/// Some placing of the services of `mask` on the part uses no barred pair and no joint, and keeps
+/// every capacity of the part.
 fn can_be_placed(
     sheet: &Sheet,
     paths: &Paths,
@@ -75,13 +75,13 @@ fn allowed(bars: &Bars, place: &[Option<usize>]) -> bool {
     places.all(|(service, cabinet)| cabinet.is_none_or(|c| !bars.bar(service, c)))
 }
 
-/// The placed services and their streams overfill no cabinet of the part and no link in it. The
-/// end of a stream whose service is not placed counts as being on p.
+/// The placed services and their streams overfill no cabinet of the part and no link in it, and
+/// none is on a joint. The end of a stream whose service is not placed counts as being on p.
 fn keeps(sheet: &Sheet, paths: &Paths, part: &[usize], p: usize, place: &[Option<usize>]) -> bool {
     let mut loads = Loads::new(sheet.cabinets.len());
     for (place, &demand) in place.iter().zip(&sheet.services) {
         if let Some(cabinet) = place {
-            loads.cabinets[*cabinet] += u64::from(demand);
+            loads.place(*cabinet, demand);
         }
     }
     for stream in &sheet.streams {

@@ -45,7 +45,16 @@ fn how_many_plans_tie_on_m_m0_and_z() {
     assert_eq!(plan(m0, 2, 12, 12).ties, 0);
     // Services 0 and 1 can change places.
     assert_eq!(plan(&tight(&z()), 3, 24, 24).ties, 1);
-    assert_eq!(check(&tight(&z()), &[2, 1, 0]), Ok(12));
+    assert_eq!(check(&tight(&z()), &[2, 1, 1]), Ok(15));
+}
+
+/// The root is a joint, and beside the service on cabinet 2 the third cannot send what it must.
+#[test]
+fn the_third_service_of_z() {
+    let sheet = tight(&z());
+    assert_eq!(check(&sheet, &[1, 2, 0]), Err(15));
+    assert_eq!(check(&sheet, &[2, 1, 0]), Err(15));
+    assert_eq!(check(&sheet, &[1, 2, 2]), Err(16));
 }
 
 #[test]

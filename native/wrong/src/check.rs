@@ -51,7 +51,8 @@ impl Faulty {
             return (if bars_first { 20 } else { 14 }, 0);
         }
         let loads = self.loads(sheet, &plan);
-        let overfull = (0..s).any(|c| self.overfull(sheet, &plan, c, &loads[c]));
+        let overfull =
+            (0..s).any(|c| self.overfull(sheet, c, &loads[c]) || self.strays(sheet, &plan, c));
         let jammed = (1..s).any(|c| self.jammed(sheet, c, &loads[c]));
         let cost = self.cost(sheet, &plan, &loads);
         let refusal = self.first(forbidden, overfull, jammed);
@@ -76,13 +77,11 @@ impl Faulty {
     }
 
     /// The cabinet holds too much.
-    fn overfull(&self, sheet: &Sheet, plan: &[u16], c: usize, load: &Load) -> bool {
+    fn overfull(&self, sheet: &Sheet, c: usize, load: &Load) -> bool {
         let capacity = u64::from(sheet.cabinets[c].capacity);
-        let used = plan.iter().any(|&place| usize::from(place) == c);
         match self.0 {
             Some(Fault::CheckFill16) => load.fill % 65_536 > capacity,
             Some(Fault::CheckServiceAlone) => load.largest > capacity,
-            Some(Fault::CheckNoneOnZero) if capacity == 0 => used,
             Some(Fault::CheckFull) => load.fill > 0 && load.fill >= capacity,
             _ => load.fill > capacity,
         }

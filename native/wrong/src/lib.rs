@@ -11,6 +11,7 @@ mod fault;
 mod figures;
 mod fourth;
 mod framing;
+mod joints;
 mod keep;
 mod keys;
 mod lines;

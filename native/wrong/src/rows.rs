@@ -55,7 +55,7 @@ impl Faulty {
     pub fn rebuild(&self, sheet: &Sheet, bars: &[usize], p: usize, rows: &mut Rows) {
         let mut below = children(sheet, p);
         let barred = self.barred_at(sheet, bars, p);
-        self.own(sheet, p, below.is_empty(), barred, &mut rows.costs[p]);
+        self.own(sheet, p, barred, &mut rows.costs[p]);
         rows.keys[p] = self.own_keys(sheet, p);
         if self.has(Fault::PlanFallingChildren) {
             below.reverse();
@@ -98,7 +98,7 @@ impl Faulty {
     }
 
     /// What the cabinet charges for each set that it holds alone.
-    fn own(&self, sheet: &Sheet, p: usize, leaf: bool, barred: usize, row: &mut [u64]) {
+    fn own(&self, sheet: &Sheet, p: usize, barred: usize, row: &mut [u64]) {
         let cabinet = &sheet.cabinets[p];
         let capacity = u64::from(cabinet.capacity);
         for (set, figure) in row.iter_mut().enumerate() {
@@ -107,10 +107,10 @@ impl Faulty {
             let demand: u64 = inside.map(|(_, &d)| u64::from(d)).sum();
             let fits = match self.0 {
                 Some(Fault::PlanFill16) => demand % 65_536 <= capacity,
-                Some(Fault::PlanNoneOnInnerZero) if capacity == 0 && !leaf => set == 0,
                 _ => demand <= capacity,
             };
-            if fits && !self.forbids(p, set, barred) {
+            let allowed = !self.forbids(p, set, barred) && !self.keeps_off(sheet, p, set);
+            if fits && allowed {
                 *figure = demand * u64::from(cabinet.price);
             } else if !self.has(Fault::PlanOldCosts) {
                 *figure = NONE;

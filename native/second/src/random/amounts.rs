@@ -92,15 +92,20 @@ pub fn ample(cabinets: &mut [Cabinet]) {
 }
 
 /// Cuts every capacity to what a random plan needs, framing counted, so that it just suffices for
-/// that plan.
+/// that plan. A cabinet whose services there have no demand gets 1, since a joint holds none.
 pub fn just_enough(random: &mut Random, sheet: &mut Sheet) {
     let s = sheet.cabinets.len();
     let plan: Vec<u16> = (0..sheet.services.len())
         .map(|_| random.below(s) as u16)
         .collect();
-    let Loads { cabinets, up, down } = loads(sheet, &plan, |a, b| path(sheet, a, b));
+    let Loads {
+        cabinets,
+        services,
+        up,
+        down,
+    } = loads(sheet, &plan, |a, b| path(sheet, a, b));
     for (c, cabinet) in sheet.cabinets.iter_mut().enumerate() {
-        cabinet.capacity = cut(cabinets[c]);
+        cabinet.capacity = cut(cabinets[c]).max(u16::from(services[c] > 0));
         cabinet.up_capacity = cut(up[c].load);
         cabinet.down_capacity = cut(down[c].load);
     }

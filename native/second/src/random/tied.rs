@@ -83,7 +83,8 @@ fn set_prices(cabinets: &mut [Cabinet], mut next: impl FnMut() -> [u16; 3]) {
     }
 }
 
-/// Gives cabinets room for some of the services or for all, and links for all or most streams.
+/// Gives cabinets room for some of the services or for all, or makes joints of them, and links room
+/// for all or most streams.
 pub fn room(random: &mut Random, sheet: &mut Sheet) {
     let most = |sum: usize| sum.min(usize::from(AMOUNT));
     let demand = most(sheet.services.iter().map(|&d| usize::from(d)).sum());
@@ -91,7 +92,7 @@ pub fn room(random: &mut Random, sheet: &mut Sheet) {
     let narrow = random.once_in(3);
     ample(&mut sheet.cabinets);
     for (c, cabinet) in sheet.cabinets.iter_mut().enumerate() {
-        cabinet.capacity = random.between(0, demand) as u16;
+        cabinet.capacity = random.between(0, demand.max(1)) as u16;
         if c != 0 && narrow {
             cabinet.up_capacity = random.between(load / 2, load) as u16;
             cabinet.down_capacity = random.between(0, load) as u16;
