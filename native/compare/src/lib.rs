@@ -13,11 +13,11 @@ use second::random::case::{Origin, with_calls};
 use second::random::layout::layout;
 use second::random::road::{Kind, of_kind};
 use second::random::{Case, Random, Size, case};
-use second::{barred, billed, copies, framed, tied};
+use second::{barred, billed, copies, framed, jointed, tied};
 
 /// Compares the bound for all numbers around the limits, the spans written down, then all cases:
-/// those written down for barred pairs, for ties, for framing, for bills and for tidy copies,
-/// random ones, and large roads. The error is the first difference in full, or what the cases
+/// those written down for barred pairs, for ties, for framing, for joints, for bills and for tidy
+/// copies, random ones, and large roads. The error is the first difference in full, or what the cases
 /// written down, or enough random ones, should have shown and did not.
 pub fn run(options: &Options) -> Result<Tally, String> {
     let mut tally = Tally::default();
@@ -47,15 +47,16 @@ pub fn run(options: &Options) -> Result<Tally, String> {
     }
 }
 
-/// The cases written down for barred pairs, for ties, for framing, for bills and for tidy copies,
-/// by name.
+/// The cases written down for barred pairs, for ties, for framing, for joints, for bills and for
+/// tidy copies, by name.
 fn written_down() -> impl Iterator<Item = (&'static str, Case)> {
     let barred = barred::all().into_iter().map(|d| (d.name, d.case()));
     let tied = tied::all().into_iter().map(|t| (t.name, t.case()));
-    let framed = framed::all().into_iter().map(|f| (f.name, f.case()));
+    let roads = framed::all().into_iter().chain(jointed::all());
+    let roads = roads.map(|road| (road.name, road.case()));
     let billed = billed::all().into_iter().map(|b| (b.name, b.case()));
     let copies = copies::all().into_iter().map(|c| (c.name, c.case()));
-    barred.chain(tied).chain(framed).chain(billed).chain(copies)
+    barred.chain(tied).chain(roads).chain(billed).chain(copies)
 }
 
 /// A road with too many plans to try.

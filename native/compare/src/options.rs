@@ -8,8 +8,8 @@ usage: compare [--cases N] [--large N] [--seed N] [--services R] [--cabinets S]
 
 --cases     random roads and damaged sheets, whose every plan is tried (20,000); before them
             come the bound for all numbers around the limits, the spans and the cases that are
-            written down for barred pairs, for ties, for framing, for bills and for tidy
-            copies; among 1,000 or more there must be ties, plans and roads that framing
+            written down for barred pairs, for ties, for framing, for joints, for bills and for
+            tidy copies; among 1,000 or more there must be ties, plans and roads that framing
             decides, edits of every kind, within their rule and outside, calls on spans of
             every kind, alone and on two spans by turns, every kind of answer to a tidy copy,
             and sheets of every form, and among 2,000 or more bills of every kind but those

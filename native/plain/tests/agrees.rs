@@ -1,9 +1,9 @@
 //! The planner by rows answers as the second planner does.
 
 use plain::{Rules, figures};
-use second::measured::m_records;
+use second::measured::{m_records, z};
 use second::random::{Case, Random, Size, case};
-use second::{barred, check, framed, plan, read};
+use second::{Cabinet, barred, check, framed, jointed, plan, read};
 
 /// The answers agree for every length lent, but for which of the cheapest plans is written.
 fn agrees(case: &Case) {
@@ -49,9 +49,32 @@ fn written_down() {
     for directed in barred::all() {
         agrees(&directed.case());
     }
-    for road in framed::all() {
+    for road in framed::all().into_iter().chain(jointed::all()) {
         agrees(&road.case());
     }
+}
+
+/// If there were no joints, the figures of most roads that are written down for them would be
+/// others; those of all that have none are the same.
+#[test]
+fn without_joints() {
+    let mut others = 0;
+    for road in jointed::all() {
+        let changed =
+            figures(&road.sheet, Rules::WITHOUT_JOINTS) != figures(&road.sheet, Rules::ALL);
+        let joint = road.sheet.cabinets.iter().any(Cabinet::is_joint);
+        assert!(joint || !changed, "{}", road.name);
+        others += usize::from(changed);
+    }
+    assert!(others >= 40, "{others} roads");
+}
+
+/// Z by hand: on the root the third service would cost 3 less. On it no service or that one could be
+/// placed before 1; before 2 it could be alone, too.
+#[test]
+fn z_without_joints() {
+    assert_eq!(figures(&z(), Rules::ALL), (Some(15), 28));
+    assert_eq!(figures(&z(), Rules::WITHOUT_JOINTS), (Some(12), 36));
 }
 
 #[test]

@@ -4,14 +4,14 @@ use plain::first_plan;
 use second::plan::solve;
 use second::random::road::{Kind, of_kind, road};
 use second::random::{Random, Size};
-use second::{check, framed, tied};
+use second::{check, framed, jointed, tied};
 
 #[test]
 fn written_down() {
     for road in tied::all() {
         assert_eq!(first_plan(&road.sheet), Some(road.plan), "{}", road.name);
     }
-    for road in framed::all() {
+    for road in framed::all().into_iter().chain(jointed::all()) {
         let plan = (road.answer[0] == 0).then_some(road.plan);
         assert_eq!(first_plan(&road.sheet), plan, "{}", road.name);
     }

@@ -7,7 +7,7 @@ use second::plan::{MOST_PLANS, plans, solve};
 use second::random::edits::Edits;
 use second::random::road::{Kind, of_kind, road};
 use second::random::{Random, Size};
-use second::{Sheet, framed, tied};
+use second::{Sheet, framed, jointed, tied};
 
 const SIZE: Size = Size {
     services: 4,
@@ -53,8 +53,8 @@ fn random_roads() {
 #[test]
 fn written_down() {
     let tied = tied::all().into_iter().map(|road| road.sheet);
-    let framed = framed::all().into_iter().map(|road| road.sheet);
-    for sheet in tied.chain(framed) {
+    let others = framed::all().into_iter().chain(jointed::all());
+    for sheet in tied.chain(others.map(|road| road.sheet)) {
         if placings(&sheet) <= 1_000_000 && plans(&sheet) <= MOST_PLANS {
             agree(&sheet);
         }

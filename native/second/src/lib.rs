@@ -20,6 +20,7 @@ pub mod form;
 pub mod framed;
 pub mod framing;
 pub mod hex;
+pub mod jointed;
 pub mod keep;
 pub mod limits;
 pub mod measured;
@@ -35,6 +36,7 @@ pub mod splits;
 pub mod tidy;
 pub mod tied;
 pub mod weigh;
+pub mod written;
 
 pub use bill::{Bill, Tariff, bill};
 pub use bound::bound;

@@ -35,7 +35,7 @@ pub use subject::Faulty;
 
 use differ::{Tally, compare, compare_bounds, compare_spans};
 use second::random::{Random, Size, case};
-use second::{barred, billed, copies, framed, tied};
+use second::{barred, billed, copies, framed, jointed, tied};
 
 /// The sizes of the random roads.
 const SIZE: Size = Size {
@@ -44,9 +44,9 @@ const SIZE: Size = Size {
 };
 
 /// Compares up to so many random cases, then those written down for barred pairs, for ties, for
-/// framing, for bills and for tidy copies, then the spans written down, and the bound for all
-/// numbers around the limits. Gives the first case that shows a difference, and the first line of
-/// what it shows.
+/// framing, for joints, for bills and for tidy copies, then the spans written down, and the bound
+/// for all numbers around the limits. Gives the first case that shows a difference, and the first
+/// line of what it shows.
 pub fn first_difference(fault: Option<Fault>, cases: usize, seed: u64) -> Option<(String, String)> {
     let subject = Faulty(fault);
     let mut random = Random::new(seed);
@@ -59,10 +59,11 @@ pub fn first_difference(fault: Option<Fault>, cases: usize, seed: u64) -> Option
     }
     let barred = barred::all().into_iter().map(|d| (d.name, d.case()));
     let tied = tied::all().into_iter().map(|t| (t.name, t.case()));
-    let framed = framed::all().into_iter().map(|f| (f.name, f.case()));
+    let roads = framed::all().into_iter().chain(jointed::all());
+    let roads = roads.map(|road| (road.name, road.case()));
     let billed = billed::all().into_iter().map(|b| (b.name, b.case()));
     let copies = copies::all().into_iter().map(|c| (c.name, c.case()));
-    let written_down = barred.chain(tied).chain(framed).chain(billed).chain(copies);
+    let written_down = barred.chain(tied).chain(roads).chain(billed).chain(copies);
     for (name, case) in written_down {
         if let Err(what) = compare(&subject, &case, &mut random, &mut tally) {
             return Some((name.to_string(), first_line(&what)));

@@ -4,73 +4,18 @@ mod line;
 mod path;
 mod sets;
 
-use crate::build::tight;
-use crate::random::case::Origin;
-use crate::random::{Case, Lent};
-use crate::sheet::{Sheet, Stream};
+pub use crate::written::Written as Framed;
 
-/// A road and what planner and check answer for it.
-pub struct Framed {
-    pub name: &'static str,
-    pub sheet: Sheet,
-    /// The planner's refusal, cost and count.
-    pub answer: [u64; 3],
-    /// The plan that the planner writes; of no place in a refusal.
-    pub plan: Vec<u16>,
-    /// Plans with their cost or refusal.
-    pub checks: Vec<(Vec<u16>, Result<u64, u64>)>,
-}
+use crate::sheet::Sheet;
+use crate::written::streams;
 
 impl Framed {
-    /// A road with a cheapest plan of this cost, and this count.
-    fn planned(name: &'static str, sheet: Sheet, [cost, count]: [u64; 2], plan: &[u16]) -> Framed {
-        Framed {
-            name,
-            sheet,
-            answer: [0, cost, count],
-            plan: plan.to_vec(),
-            checks: vec![(plan.to_vec(), Ok(cost))],
-        }
-    }
-
     /// A road without a valid plan, this count, and a plan that overfills a link and no cabinet.
     fn refused(name: &'static str, sheet: Sheet, count: u64, jammed: &[u16]) -> Framed {
-        Framed {
-            name,
-            sheet,
-            answer: [12, 0, count],
-            plan: vec![],
-            checks: vec![(jammed.to_vec(), Err(16))],
-        }
+        let mut road = Framed::without_plan(name, sheet, count);
+        road.checks.push((jammed.to_vec(), Err(16)));
+        road
     }
-
-    /// The same with these plans checked too.
-    fn checked(mut self, checks: &[([u16; 2], Result<u64, u64>)]) -> Framed {
-        let checks = checks.iter().map(|(plan, answer)| (plan.to_vec(), *answer));
-        self.checks.extend(checks);
-        self
-    }
-
-    /// The road with its calls, to be compared.
-    pub fn case(&self) -> Case {
-        let entries = self.sheet.entries();
-        Case {
-            origin: Origin::Directed(self.name),
-            sheet: tight(&self.sheet),
-            plans: self.checks.iter().map(|(plan, _)| plan.clone()).collect(),
-            tariffs: vec![],
-            lent: vec![Lent {
-                output: self.sheet.services.len(),
-                costs: entries,
-                choices: entries,
-            }],
-        }
-    }
-}
-
-/// Streams of these ends and demands.
-fn streams(words: &[[u16; 3]]) -> Vec<Stream> {
-    words.iter().copied().map(Stream::from_words).collect()
 }
 
 /// All of them.

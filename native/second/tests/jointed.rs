@@ -1,0 +1,88 @@
+//! The roads on which joints decide answer as is written down for them.
+
+use second::check::{check_sheet, only_joints};
+use second::jointed::all;
+use second::measured::{m_records, z};
+use second::plan::solve;
+use second::{Cabinet, check, group};
+
+#[test]
+fn what_a_joint_is() {
+    let cabinet = |capacity| Cabinet::from_words([0, capacity, 0, 0, 0, 0, 0]);
+    assert!(cabinet(0).is_joint());
+    assert!(!cabinet(1).is_joint());
+    assert!(Cabinet::from_words([0, 0, 9, 9, 9, 9, 9]).is_joint());
+}
+
+#[test]
+fn planner() {
+    for road in all() {
+        let answer = solve(&road.sheet);
+        let given = [answer.refusal, answer.cost, answer.count];
+        assert_eq!(given, road.answer, "{}", road.name);
+        assert_eq!(answer.group, group(answer.refusal), "{}", road.name);
+        assert_eq!(answer.plan.unwrap_or_default(), road.plan, "{}", road.name);
+    }
+}
+
+#[test]
+fn checks() {
+    for road in all() {
+        let case = road.case();
+        for (plan, answer) in &road.checks {
+            assert_eq!(check(&case.sheet, plan), *answer, "{}: {plan:?}", road.name);
+        }
+    }
+}
+
+/// Every road has a name of its own, a joint, or a cabinet in its place on the same road.
+#[test]
+fn enough_of_them() {
+    let all = all();
+    assert!(all.len() >= 40, "{} roads", all.len());
+    let mut names: Vec<&str> = all.iter().map(|road| road.name).collect();
+    names.sort();
+    names.dedup();
+    assert_eq!(names.len(), all.len());
+    let joint = |road: &second::jointed::Jointed| road.sheet.cabinets.iter().any(Cabinet::is_joint);
+    assert!(all.iter().filter(|road| joint(road)).count() >= 40);
+}
+
+/// A service of demand above 0 overfills a joint, so that 15 is not for the joint alone.
+#[test]
+fn for_a_joint_alone() {
+    let sheet = z();
+    assert!(only_joints(&sheet, &[1, 2, 0]));
+    assert!(!only_joints(&sheet, &[0, 2, 1]));
+    assert!(!only_joints(&sheet, &[1, 1, 0]));
+    assert!(!only_joints(&sheet, &[1, 2, 2]));
+    assert!(!only_joints(&sheet, &[1, 2, 1]));
+    let mut lone = 0;
+    for road in all() {
+        for (plan, answer) in &road.checks {
+            let idle = |&(_, demand): &(&u16, &u16)| *demand == 0;
+            let mut placed = plan.iter().zip(&road.sheet.services);
+            let alone = only_joints(&road.sheet, plan);
+            assert!(!alone || *answer == Err(15));
+            assert!(!alone || placed.any(|place| idle(&place)));
+            lone += usize::from(alone);
+        }
+    }
+    assert!(lone >= 60, "{lone} plans refused for a joint alone");
+}
+
+/// A cabinet is a joint after an edit to capacity 0, and none after one back.
+#[test]
+fn made_a_joint_and_back() {
+    let mut sheet = m_records();
+    sheet.services[1] = 0;
+    let before = solve(&sheet);
+    let plan = before.plan.clone().unwrap_or_default();
+    assert_eq!((before.cost, plan.as_slice()), (2, &[1, 1][..]));
+    sheet.cabinets[1].capacity = 0;
+    assert_eq!(check_sheet(&sheet, &plan), Err(15));
+    let after = solve(&sheet);
+    assert_eq!((after.cost, after.plan), (4, Some(vec![2, 2])));
+    sheet.cabinets[1].capacity = 3;
+    assert_eq!(solve(&sheet), before);
+}
