@@ -46,7 +46,8 @@ impl Counts {
     }
 }
 
-/// A cabinet and the link to its parent; the root's parent is 65535.
+/// A cabinet and the link to its parent; the root's parent is 65535. One of capacity 0 is a joint:
+/// no service may be placed on it, whatever its demand, and streams pass through it.
 #[derive(Clone, Copy, Debug, PartialEq, Eq)]
 pub struct Cabinet {
     pub parent: u64,
@@ -154,8 +155,8 @@ pub fn barred(sheet: &[u8], number: usize) -> Option<Pair> {
     found.then_some(Pair { service, cabinet })
 }
 
-/// The cost of a plan that gives each service a cabinet. The framing of streams takes line, which the
-/// links must have room for, and costs nothing.
+/// The cost of a plan that gives each service a cabinet, but none a joint. The framing of streams takes
+/// line, which the links must have room for, and costs nothing.
 pub fn check(sheet: &[u8], plan: &[u16]) -> Result<u64, Refusal> {
     let mut answer = [0; 2];
     let number = calls::check(sheet, plan, &mut answer);

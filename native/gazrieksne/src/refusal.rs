@@ -54,7 +54,7 @@ impl Display for Refusal {
             12 => "no valid plan exists",
             13 => "the plan hasn't one place a service",
             14 => "the plan or the edit names a cabinet that isn't there",
-            15 => "a cabinet is overfull",
+            15 => "a cabinet is overfull, or a service is on a joint, a cabinet of capacity 0",
             16 => "a link direction is overfull, framing counted",
             18 => "the block of barred pairs is not within the sheet, has too many pairs, or shares a byte",
             19 => "a barred pair names no service or no cabinet",
