@@ -7,8 +7,9 @@ use second::feature::Feature;
 use second::form::Form;
 
 /// So many random cases must have among them plans of which others cost as much, plans and roads
-/// that framing decides, edits of every kind, calls on spans of every kind, alone and on two spans
-/// by turns, every kind of answer of the writer, and sheets of every form.
+/// that framing decides, plans, roads and edits of every kind with joints, edits of every kind,
+/// calls on spans of every kind, alone and on two spans by turns, every kind of answer of the
+/// writer, and sheets of every form.
 const ENOUGH_CASES: usize = 1000;
 /// So many must have among them bills with every feature that chance gives; few roads have loads of
 /// about whole blocks.
@@ -46,7 +47,7 @@ pub fn missing(options: &Options, before: &Tally, after: &Tally) -> Option<Strin
     }
     if let Some(event) = unmet(before, after) {
         return Some(format!(
-            "among random edits and calls on spans there was no {event:?}"
+            "among random plans, roads, edits and calls on spans there was no {event:?}"
         ));
     }
     if options.cases >= ENOUGH_BILLS
@@ -57,7 +58,8 @@ pub fn missing(options: &Options, before: &Tally, after: &Tally) -> Option<Strin
     copies(before, after)
 }
 
-/// The first that did not come up among edits and calls on spans between two tallies.
+/// The first that did not come up with joints or among edits and calls on spans between two
+/// tallies.
 fn unmet(before: &Tally, after: &Tally) -> Option<Event> {
     let mut all = Event::all().into_iter();
     all.find(|&event| before.met(event) == after.met(event))
@@ -100,22 +102,22 @@ mod tests {
         tally
     }
 
-    /// Notes these edits and calls on spans.
-    fn edit(tally: &mut Tally, events: &[Event]) {
+    /// Notes that these came up.
+    fn note(tally: &mut Tally, events: &[Event]) {
         for &event in events {
             tally.event(event);
         }
     }
 
-    /// The same after ties, what framing decides, edits and calls on spans of every kind, more of
-    /// these bills, these answers of the writer, and the copies of these sheets.
+    /// The same after ties, what framing decides, joints, edits and calls on spans of every kind, more
+    /// of these bills, these answers of the writer, and the copies of these sheets.
     fn tally(features: &[Feature], answers: &[u64], sheets: &[&str]) -> Tally {
         let mut tally = written_down();
         tally.tie(false);
         tally.tie(true);
         tally.framed_plan();
         tally.framed_road();
-        edit(&mut tally, &Event::all());
+        note(&mut tally, &Event::all());
         tally.bill(features);
         for &answer in answers {
             tally.answer("tidy", answer);
@@ -165,7 +167,7 @@ mod tests {
         after.framed_plan();
         assert!(missed(&after).contains("framing decides"));
         after.framed_road();
-        assert!(missed(&after).contains("random edits"));
+        assert!(missed(&after).contains("random plans"));
         let before = after.clone();
         after.tie(false);
         after.tie(true);
@@ -177,7 +179,7 @@ mod tests {
 
     /// Each event is asked for by itself, and only of enough random cases.
     #[test]
-    fn edits() {
+    fn events() {
         for left_out in Event::all() {
             let mut others = Event::all();
             others.retain(|&event| event != left_out);
@@ -186,14 +188,14 @@ mod tests {
             after.tie(true);
             after.framed_plan();
             after.framed_road();
-            edit(&mut after, &others);
+            note(&mut after, &others);
             let missed = since_written_down(&after).unwrap_or_default();
             assert!(missed.contains(&format!("{left_out:?}")), "{missed}");
-            edit(&mut after, &[left_out]);
+            note(&mut after, &[left_out]);
             let missed = since_written_down(&after).unwrap_or_default();
             assert!(missed.contains("random bill"), "{missed}");
             let stale = missing(&Options::default(), &after, &after);
-            assert!(stale.is_some_and(|what| !what.contains("random edits")));
+            assert!(stale.is_some_and(|what| !what.contains("random plans")));
         }
     }
 

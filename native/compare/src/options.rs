@@ -10,10 +10,10 @@ usage: compare [--cases N] [--large N] [--seed N] [--services R] [--cabinets S]
             come the bound for all numbers around the limits, the spans and the cases that are
             written down for barred pairs, for ties, for framing, for joints, for bills and for
             tidy copies; among 1,000 or more there must be ties, plans and roads that framing
-            decides, edits of every kind, within their rule and outside, calls on spans of
-            every kind, alone and on two spans by turns, every kind of answer to a tidy copy,
-            and sheets of every form, and among 2,000 or more bills of every kind but those
-            above 31 bits
+            decides, all that is told apart about joints, edits of every kind, within their rule
+            and outside, calls on spans of every kind, alone and on two spans by turns, every
+            kind of answer to a tidy copy, and sheets of every form, and among 2,000 or more
+            bills of every kind but those above 31 bits
 --large     roads of up to 10 services and 200 cabinets (40); of 40 or more some must tie
 --seed      the same cases for the same seed (1)
 --services  the most services of common roads (4)

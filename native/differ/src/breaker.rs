@@ -4,9 +4,9 @@ use crate::editor::{roomy, some_sheet};
 use crate::event::Event;
 use crate::guarded::{Dirt, Guarded};
 use crate::memory::{Asked, Given, Memory};
-use crate::{Subject, Tally};
+use crate::{Joint, Subject, Tally};
 use second::Sheet;
-use second::check::check_sheet;
+use second::check::{check_sheet, only_joints};
 use second::hex::dump;
 use second::path::ancestors;
 use second::random::Random;
@@ -84,6 +84,10 @@ impl Attempt {
                 12 => Event::BrokenNoPlan,
                 _ => Event::Unlike,
             });
+            let plan = plain::led_to(&self.edited, &right);
+            if given.refusal == 23 && only_joints(&self.edited, &plan) {
+                tally.joints(&[Joint::Unlike]);
+            }
         }
         Ok(broken)
     }

@@ -2,7 +2,7 @@
 
 use crate::alike::Alike;
 use crate::guarded::{Guarded, same};
-use crate::{Subject, Tally};
+use crate::{Joint, Subject, Tally};
 use second::check::only_framing;
 use second::group;
 use second::random::Random;
@@ -21,9 +21,11 @@ pub fn check(
         tally.answer("check", right.err().unwrap_or(0));
         Ok(())
     })?;
-    let records = second::read(alike.sheet);
-    if records.is_ok_and(|records| only_framing(&records, plan)) {
-        tally.framed_plan();
+    if let Ok(records) = second::read(alike.sheet) {
+        tally.joints(&Joint::of_plan(&records, plan, right));
+        if only_framing(&records, plan) {
+            tally.framed_plan();
+        }
     }
     Ok(())
 }

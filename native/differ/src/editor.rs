@@ -4,7 +4,7 @@ use crate::event::Event;
 use crate::keeper::Right;
 use crate::memory::{Asked, Memory};
 use crate::refused;
-use crate::{Subject, Tally};
+use crate::{Joint, Subject, Tally};
 use second::Sheet;
 use second::build::build;
 use second::hex::dump;
@@ -54,13 +54,13 @@ pub fn edits(
         subject,
         edits: Edits::new(records),
         memory: Memory::dirty(random, lent),
-        before: 0,
+        before: None,
         done: 0,
     };
     let first = some_sheet(random, records);
     let right = Right::of(records);
     list.call(Asked::Keep, &first, &right, random)?;
-    list.before = right.answer.refusal;
+    list.before = right.answer.plan;
     tally.list();
     for _ in 0..steps {
         list.edit(random, tally)?;
@@ -73,8 +73,8 @@ struct List<'a> {
     subject: &'a dyn Subject,
     edits: Edits,
     memory: Memory,
-    /// The refusal of the last call, and the number of edits so far.
-    before: u64,
+    /// The plan of the last call, if it gave one, and the number of edits so far.
+    before: Option<Vec<u16>>,
     done: usize,
 }
 
@@ -82,10 +82,7 @@ impl List<'_> {
     /// The next edit, with calls that are refused before it, and on small roads a keeping call
     /// beside it.
     fn edit(&mut self, random: &mut Random, tally: &mut Tally) -> Result<(), String> {
-        let cabinet = match self.before == 12 && random.once_in(2) {
-            true => self.edits.back(random),
-            false => self.edits.next(random),
-        };
+        let cabinet = self.edits.after(random, self.before.as_deref());
         let records = self.edits.sheet().clone();
         let right = Right::of(&records);
         if random.once_in(2) {
@@ -104,7 +101,7 @@ impl List<'_> {
         }
         tally.answer("edit", right.answer.refusal);
         self.note(&records, cabinet, right.answer.refusal, tally);
-        self.before = right.answer.refusal;
+        self.before = right.answer.plan;
         self.done += 1;
         Ok(())
     }
@@ -159,7 +156,7 @@ impl List<'_> {
             (_, false) => tally.event(Event::Between),
         }
         match refusal {
-            0 if self.done > 0 && self.before == 12 => tally.event(Event::PlanAgain),
+            0 if self.done > 0 && self.before.is_none() => tally.event(Event::PlanAgain),
             _ => {}
         }
         tally.event(if refusal == 0 {
@@ -167,5 +164,7 @@ impl List<'_> {
         } else {
             Event::NoPlan
         });
+        let before = self.before.as_deref();
+        tally.joints(&Joint::of_edit(&self.edits, cabinet, before, refusal));
     }
 }

@@ -1,11 +1,12 @@
-//! What is told apart about edits and about calls on spans.
+//! What is told apart about joints, about edits and about calls on spans.
 
+use crate::joint::Joint;
 use crate::memory::Call;
 use crate::spot::Spot;
 use crate::turn::Turn;
 use second::random::breach::Breach;
 
-/// What came up among edits, among calls on spans, and in lists of calls on two spans.
+/// What came up with joints, among edits, among calls on spans, and in lists of calls on two spans.
 #[derive(Clone, Copy, Debug, PartialEq, Eq, PartialOrd, Ord)]
 pub enum Event {
     /// An edit with a plan.
@@ -44,6 +45,8 @@ pub enum Event {
     Span(Call, Spot),
     /// This in a list of calls on two spans of the same tables.
     Sharing(Turn),
+    /// This with joints.
+    Joint(Joint),
 }
 
 impl Event {
@@ -72,6 +75,7 @@ impl Event {
             all.extend(spots.map(|spot| Event::Span(call, spot)));
         }
         all.extend(Turn::ALL.map(Event::Sharing));
+        all.extend(Joint::ALL.map(Event::Joint));
         all
     }
 }

@@ -10,6 +10,7 @@ mod editor;
 mod event;
 mod figures;
 mod guarded;
+mod joint;
 mod keeper;
 mod memory;
 mod order;
@@ -26,6 +27,7 @@ mod writer;
 
 pub use event::Event;
 pub use figures::compare_bounds;
+pub use joint::Joint;
 pub use memory::Call;
 pub use sharing::compare_sharing;
 pub use spans::compare_spans;

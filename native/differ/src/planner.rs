@@ -3,7 +3,7 @@
 use crate::alike::Alike;
 use crate::guarded::Guarded;
 use crate::memory::{Asked, Memory};
-use crate::{Subject, Tally};
+use crate::{Joint, Subject, Tally};
 use plain::Rules;
 use second::plan::{MOST_PLANS, plans};
 use second::random::{Lent, Random};
@@ -30,6 +30,9 @@ pub fn plan(
     }
     if framing_decides(alike.sheet, right) {
         tally.framed_road();
+    }
+    if let Ok(records) = second::read(alike.sheet) {
+        tally.joints(&Joint::of_road(&records, right));
     }
     Ok(())
 }

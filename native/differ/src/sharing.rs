@@ -139,10 +139,8 @@ impl Office<'_> {
             Call::Plan => Asked::Plan,
             Call::Keep => Asked::Keep,
             Call::Edit => {
-                let cabinet = match road.right.answer.refusal == 12 && random.once_in(2) {
-                    true => road.edits.back(random),
-                    false => road.edits.next(random),
-                };
+                let plan = road.right.answer.plan.as_deref();
+                let cabinet = road.edits.after(random, plan);
                 road.right = Right::of(road.edits.sheet());
                 Asked::Edit(cabinet)
             }
@@ -171,7 +169,10 @@ impl Office<'_> {
                 0 => Turn::Plan,
                 _ => Turn::NoPlan,
             };
-            let turns = since.into_iter().chain([last]);
+            let joint = road.edits.made_joint().then_some(Turn::MadeJoint);
+            let cabinet = road.edits.made_cabinet().then_some(Turn::MadeCabinet);
+            let turned = joint.into_iter().chain(cabinet);
+            let turns = since.into_iter().chain([last]).chain(turned);
             turns.for_each(|turn| tally.event(Event::Sharing(turn)));
         }
         if road.kept && !kept {

@@ -1,8 +1,8 @@
 //! Counts of cases by kind, of calls by answer, of plans that were not the only cheapest, of what
-//! framing decided, of the features of bills, of what came up among edits and calls on spans, and
-//! of the forms of sheets that were copied.
+//! framing decided, of the features of bills, of what came up with joints, among edits and calls on
+//! spans, and of the forms of sheets that were copied.
 
-use crate::Event;
+use crate::{Event, Joint};
 use second::feature::Feature;
 use second::form::{Form, forms};
 use second::random::Case;
@@ -112,9 +112,16 @@ impl Tally {
         self.sharing_lists
     }
 
-    /// Notes what came up among edits or calls on spans.
+    /// Notes what came up with joints, among edits or calls on spans.
     pub fn event(&mut self, event: Event) {
         *self.events.entry(event).or_default() += 1;
+    }
+
+    /// Notes what came up with joints.
+    pub fn joints(&mut self, joints: &[Joint]) {
+        for &joint in joints {
+            self.event(Event::Joint(joint));
+        }
     }
 
     /// How often this came up.
@@ -167,7 +174,10 @@ impl Display for Tally {
         for (feature, times) in &self.features {
             writeln!(f, "{times:9} {feature:?}")?;
         }
-        writeln!(f, "lists of edits, calls on spans, and what came up:")?;
+        writeln!(
+            f,
+            "lists of edits, calls on spans, and what came up there and with joints:"
+        )?;
         writeln!(f, "{:9} lists of edits", self.lists)?;
         writeln!(f, "{:9} lists of calls on two spans", self.sharing_lists)?;
         for (event, times) in &self.events {

@@ -29,6 +29,10 @@ pub enum Turn {
     Plan,
     /// An edit by its rule, with 12.
     NoPlan,
+    /// An edit by its rule that makes a joint of a cabinet.
+    MadeJoint,
+    /// An edit by its rule that makes a cabinet of a joint.
+    MadeCabinet,
     /// A planning call on a span that held what edits need.
     Cleared,
     /// 24 on one of the spans moved past the tables.
@@ -36,7 +40,7 @@ pub enum Turn {
 }
 
 impl Turn {
-    pub const ALL: [Turn; 14] = [
+    pub const ALL: [Turn; 16] = [
         Turn::Before,
         Turn::Behind,
         Turn::Touching,
@@ -49,6 +53,8 @@ impl Turn {
         Turn::AfterRefused,
         Turn::Plan,
         Turn::NoPlan,
+        Turn::MadeJoint,
+        Turn::MadeCabinet,
         Turn::Cleared,
         Turn::Past,
     ];

@@ -62,7 +62,7 @@ pub fn answer(sheet: &Sheet, tables: &Tables) -> Answer {
     if cost >= NONE {
         return Answer::refused(12, count);
     }
-    let plan = digits(sheet.services.len(), road.read(tables, 0, all));
+    let plan = road.plan(tables);
     match check_sheet(sheet, &plan) {
         Ok(checked) if checked == cost => Answer {
             cost,
@@ -72,6 +72,11 @@ pub fn answer(sheet: &Sheet, tables: &Tables) -> Answer {
         },
         _ => Answer::refused(23, 0),
     }
+}
+
+/// The plan that tables lead to, by the choices alone.
+pub fn led_to(sheet: &Sheet, tables: &Tables) -> Vec<u16> {
+    Road::new(sheet).plan(tables)
 }
 
 /// A road with what is looked up often.
@@ -116,6 +121,12 @@ impl Road<'_> {
         }
         tables.costs[p * self.row..][..self.row].copy_from_slice(&row.costs);
         (row.keys, open)
+    }
+
+    /// The plan by the choices.
+    fn plan(&self, tables: &Tables) -> Vec<u16> {
+        let key = self.read(tables, 0, self.row - 1);
+        digits(self.sheet.services.len(), key)
     }
 
     /// The key of the placing that the choices name for a set on p and all under it. Of each entry

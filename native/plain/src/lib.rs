@@ -11,7 +11,7 @@ mod keyed;
 mod rules;
 
 pub use first::first_plan;
-pub use kept::{Edited, answer, edit, tables};
+pub use kept::{Edited, answer, edit, led_to, tables};
 pub use rules::Rules;
 
 use charges::Charges;

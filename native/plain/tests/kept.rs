@@ -91,16 +91,15 @@ fn large_roads() {
 fn lists_of_edits() {
     let mut random = Random::new(22);
     let (mut planned, mut refused, mut again) = (0, 0, 0);
+    let (mut joints, mut boxes) = (0, 0);
     for _ in 0..1500 {
         let (_, sheet) = road(&mut random, SIZE);
         let mut edits = Edits::new(&sheet);
         let mut kept = tables(&sheet);
         let mut before = 0;
+        let mut plan = answer(&sheet, &kept).plan;
         for _ in 0..5 {
-            let cabinet = match before == 12 && random.once_in(2) {
-                true => edits.back(&mut random),
-                false => edits.next(&mut random),
-            };
+            let cabinet = edits.after(&mut random, plan.as_deref());
             let edited = edit(edits.sheet(), cabinet, &mut kept);
             assert!(!edited.open);
             assert_eq!(kept, tables(edits.sheet()));
@@ -109,12 +108,16 @@ fn lists_of_edits() {
             planned += usize::from(refusal == 0);
             refused += usize::from(refusal == 12);
             again += usize::from(refusal == 0 && before == 12);
+            joints += usize::from(edits.made_joint());
+            boxes += usize::from(edits.made_cabinet());
             assert!(refusal == 0 || refusal == 12);
             before = refusal;
+            plan = edited.answer.plan;
         }
     }
     assert!(
         planned > 2000 && refused > 1000 && again > 200,
         "{planned} {refused} {again}"
     );
+    assert!(joints > 400 && boxes > 400, "{joints} {boxes}");
 }

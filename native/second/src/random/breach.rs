@@ -7,13 +7,19 @@ use super::edits::{other_record, some_cabinet};
 use super::road::of_numbers;
 use crate::keep::{NONE, Tables};
 use crate::limits::{CABINETS, SERVICES};
+use crate::plan::{plans, solve};
 use crate::sheet::Sheet;
+
+/// Fewer plans than this are tried to find a cabinet in use.
+const FEW_PLANS: u64 = 3000;
 
 /// How the rule is broken.
 #[derive(Clone, Copy, Debug, PartialEq, Eq, PartialOrd, Ord)]
 pub enum Breach {
     /// Another cabinet is changed too.
     TwoCabinets,
+    /// Another cabinet is a joint too, if one is left.
+    Joint,
     /// The cabinet, or another one, has another parent.
     Parent,
     /// The tables are those of another road with as many services and cabinets.
@@ -33,8 +39,9 @@ pub enum Breach {
 }
 
 impl Breach {
-    pub const ALL: [Breach; 9] = [
+    pub const ALL: [Breach; 10] = [
         Breach::TwoCabinets,
+        Breach::Joint,
         Breach::Parent,
         Breach::OtherRoad,
         Breach::OtherSizes,
@@ -66,6 +73,7 @@ pub fn broken(random: &mut Random, breach: Breach, sheet: &Sheet) -> Broken {
             let other = (cabinet + 1 + random.below(s - 1)) % s;
             edited.cabinets[other] = other_record(random, sheet, other);
         }
+        Breach::Joint => shut_one(random, &mut edited, cabinet),
         Breach::Parent => move_one(random, &mut edited, cabinet),
         Breach::OtherRoad => kept = other_road(random, sheet, false),
         Breach::OtherSizes => kept = other_road(random, sheet, true),
@@ -76,6 +84,22 @@ pub fn broken(random: &mut Random, breach: Breach, sheet: &Sheet) -> Broken {
         cabinet,
         edited,
     }
+}
+
+/// Makes a joint of another cabinet: one that the first plan uses, if few plans are to be tried.
+fn shut_one(random: &mut Random, sheet: &mut Sheet, cabinet: usize) {
+    let plan = match plans(sheet) < FEW_PLANS {
+        true => solve(sheet).plan.unwrap_or_default(),
+        false => vec![],
+    };
+    let used = plan.into_iter().map(usize::from).filter(|&c| c != cabinet);
+    let used: Vec<usize> = used.collect();
+    let s = sheet.cabinets.len();
+    let other = match used.is_empty() {
+        true => (cabinet + 1 + random.below(s - 1)) % s,
+        false => random.pick(&used),
+    };
+    sheet.cabinets[other].capacity = 0;
 }
 
 /// Gives a cabinet another parent, if there is one that can have another: that of the edit, or any.

@@ -3,6 +3,7 @@
 
 use super::Random;
 use super::damage::{Damage, damage};
+use super::joints::strayed;
 use super::layout::layout;
 use super::road::{Kind, road};
 use crate::bill::Tariff;
@@ -77,6 +78,7 @@ pub fn with_calls(random: &mut Random, origin: Origin, sheet: Vec<u8>) -> Case {
     if let Some(records) = &records {
         plans.extend(neighbours(random, records));
         plans.extend(forbidden(random, records));
+        plans.extend(strayed(random, records));
     }
     let fitting = Lent {
         output: known.services.len(),

@@ -24,10 +24,14 @@ enum Change {
     Like,
     /// The amounts that it had at first.
     Back,
+    /// It is a joint.
+    Joint,
+    /// It is none, and has room for services of demand 0 and perhaps for others.
+    Box,
 }
 
 /// The changes, each as often as it stands here.
-const CHANGES: [Change; 16] = [
+const CHANGES: [Change; 19] = [
     Change::Nothing,
     Change::OneField,
     Change::OneField,
@@ -44,13 +48,17 @@ const CHANGES: [Change; 16] = [
     Change::Like,
     Change::Like,
     Change::Back,
+    Change::Joint,
+    Change::Box,
+    Change::Box,
 ];
 
 /// A list of edits of a road: each gives the cabinet and the sheet after it.
 pub struct Edits {
     first: Sheet,
     now: Sheet,
-    last: Option<usize>,
+    /// The cabinet edited last, and its record before.
+    last: Option<(usize, Cabinet)>,
 }
 
 impl Edits {
@@ -67,22 +75,58 @@ impl Edits {
         &self.now
     }
 
+    /// The next edit after a call that gave this plan, or 12: sometimes one that makes a joint of a
+    /// cabinet in use, and often one that takes back what led to 12 or to a joint.
+    pub fn after(&mut self, random: &mut Random, plan: Option<&[u16]>) -> usize {
+        match plan {
+            None if random.once_in(2) => self.back(random),
+            Some(_) if self.made_joint() && random.once_in(2) => self.back(random),
+            Some(used @ [_, ..]) if random.once_in(4) => {
+                let cabinet = usize::from(random.pick(used));
+                let joint = self.changed(random, cabinet, Change::Joint);
+                self.put(cabinet, joint)
+            }
+            _ => self.next(random),
+        }
+    }
+
     /// The next edit of any cabinet.
     pub fn next(&mut self, random: &mut Random) -> usize {
         let cabinet = some_cabinet(random, &self.now);
         let change = random.pick(&CHANGES);
-        self.now.cabinets[cabinet] = self.changed(random, cabinet, change);
-        self.last = Some(cabinet);
-        cabinet
+        let record = self.changed(random, cabinet, change);
+        self.put(cabinet, record)
     }
 
     /// An edit that gives the cabinet edited last what it had at first.
     pub fn back(&mut self, random: &mut Random) -> usize {
-        let Some(cabinet) = self.last else {
-            return self.next(random);
-        };
-        self.now.cabinets[cabinet] = self.first.cabinets[cabinet];
+        match self.last {
+            Some((cabinet, _)) => self.put(cabinet, self.first.cabinets[cabinet]),
+            None => self.next(random),
+        }
+    }
+
+    /// Gives a cabinet this record.
+    fn put(&mut self, cabinet: usize, record: Cabinet) -> usize {
+        self.last = Some((cabinet, self.now.cabinets[cabinet]));
+        self.now.cabinets[cabinet] = record;
         cabinet
+    }
+
+    /// The last edit made a joint of a cabinet.
+    pub fn made_joint(&self) -> bool {
+        self.turned(|before, after| !before.is_joint() && after.is_joint())
+    }
+
+    /// The last edit made a cabinet of a joint.
+    pub fn made_cabinet(&self) -> bool {
+        self.turned(|before, after| before.is_joint() && !after.is_joint())
+    }
+
+    /// The last edit did this to the record of a cabinet.
+    fn turned(&self, turn: impl Fn(&Cabinet, &Cabinet) -> bool) -> bool {
+        self.last
+            .is_some_and(|(cabinet, before)| turn(&before, &self.now.cabinets[cabinet]))
     }
 
     /// The record of a cabinet after a change.
@@ -103,6 +147,8 @@ impl Edits {
                 Change::Open if room => AMOUNT,
                 Change::Like => other[k],
                 Change::Back => self.first.cabinets[cabinet].words()[k],
+                Change::Joint if k == 1 => 0,
+                Change::Box if k == 1 => words[k].max(1 + random.below(3) as u16),
                 _ => words[k],
             };
         }
@@ -133,6 +179,8 @@ pub fn other_record(random: &mut Random, sheet: &Sheet, cabinet: usize) -> Cabin
         Change::AllFields,
         Change::Shut,
         Change::Open,
+        Change::Joint,
+        Change::Box,
     ]);
     edits.changed(random, cabinet, change)
 }

@@ -6,6 +6,7 @@ pub mod breach;
 pub mod case;
 pub mod damage;
 pub mod edits;
+pub mod joints;
 pub mod layout;
 pub mod misplaced;
 pub mod road;

@@ -4,6 +4,7 @@ use super::Random;
 use super::amounts::{Scale, ample, capacities, just_enough, one_less, prices};
 use super::bars::bars;
 use super::case::Size;
+use super::joints::jointed;
 use super::tied::{self, renumber, room, tie, tied};
 use crate::framing::FRAMING;
 use crate::limits::{AMOUNT, NO_PARENT, SERVICES, STREAMS};
@@ -26,6 +27,8 @@ pub enum Kind {
     Pairs,
     /// Links that just carry the streams of some plan, or would if framing took no line.
     Framed,
+    /// Joints, and services of demand 0.
+    Joints,
     /// Many streams of large demand, so that sums pass 65,535.
     Streams,
     /// Many services of large demand on one or two cabinets, for the same.
@@ -55,7 +58,7 @@ pub enum Kind {
 }
 
 /// The kinds that are common, each as often as it stands here.
-const KINDS: [Kind; 28] = [
+const KINDS: [Kind; 34] = [
     Kind::Small,
     Kind::Small,
     Kind::Small,
@@ -79,6 +82,12 @@ const KINDS: [Kind; 28] = [
     Kind::Framed,
     Kind::Framed,
     Kind::Framed,
+    Kind::Joints,
+    Kind::Joints,
+    Kind::Joints,
+    Kind::Joints,
+    Kind::Joints,
+    Kind::Joints,
     Kind::Streams,
     Kind::Streams,
     Kind::Crowd,
@@ -114,6 +123,7 @@ fn unbarred(random: &mut Random, kind: Kind, size: Size) -> Sheet {
         Kind::Enough | Kind::Lacking => measured_out(random, kind, size),
         Kind::Pairs => pairs(random, size),
         Kind::Framed => framed(random, size),
+        Kind::Joints => jointed(random, size),
         Kind::Streams => streams(random, size),
         Kind::Crowd => crowd(random),
         Kind::Long => long(random),

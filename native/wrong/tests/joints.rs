@@ -1,0 +1,25 @@
+//! What random cases show about joints.
+
+use differ::{Event, Joint, Tally, Turn, compare};
+use second::random::{Random, Size, case};
+use wrong::Faulty;
+
+/// All that is told apart about joints comes up, and soon.
+#[test]
+fn random_cases_have_all_there_is_about_joints() {
+    let size = Size {
+        services: 4,
+        cabinets: 6,
+    };
+    let (mut random, mut tally) = (Random::new(11), Tally::default());
+    for _ in 0..1000 {
+        let case = case(&mut random, size);
+        let compared = compare(&Faulty(None), &case, &mut random, &mut tally);
+        assert_eq!(compared, Ok(()));
+    }
+    let made = [Turn::MadeJoint, Turn::MadeCabinet].map(Event::Sharing);
+    for event in Joint::ALL.map(Event::Joint).into_iter().chain(made) {
+        let times = tally.met(event);
+        assert!(times >= 5, "{event:?} {times} times");
+    }
+}
