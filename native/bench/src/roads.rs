@@ -15,13 +15,15 @@ enum Tree {
     Legs,
 }
 
-/// What the amounts of a road are like, and whether it has barred pairs.
+/// What the amounts of a road are like, and whether it has barred pairs or joints.
 #[derive(Clone, Copy, PartialEq)]
 enum Manner {
     /// Each cabinet holds some of the services, and each link carries some of the streams.
     Usual,
     /// The same, with a quarter of all pairs barred.
     Barred,
+    /// The same without them, with every third cabinet a joint.
+    Jointed,
     /// The same without them, with prices up to the largest, so that hardly any splits tie.
     Wide,
     /// Equal prices, free links, and room for everything everywhere: all that can tie does.
@@ -40,11 +42,12 @@ const fn shape(tree: Tree, manner: Manner) -> Shape {
 }
 
 impl Shape {
-    pub const ALL: [Shape; 9] = [
+    pub const ALL: [Shape; 10] = [
         shape(Tree::Star, Manner::Usual),
         shape(Tree::Chain, Manner::Usual),
         shape(Tree::Random, Manner::Usual),
         shape(Tree::Random, Manner::Barred),
+        shape(Tree::Random, Manner::Jointed),
         shape(Tree::Legs, Manner::Wide),
         shape(Tree::Star, Manner::Tied),
         shape(Tree::Chain, Manner::Tied),
@@ -68,6 +71,7 @@ impl Shape {
         match self.manner {
             Manner::Usual | Manner::Wide => tree.to_string(),
             Manner::Barred => format!("{tree}, barred"),
+            Manner::Jointed => format!("{tree}, joints"),
             Manner::Tied => format!("{tree}, all ties"),
         }
     }
@@ -80,7 +84,7 @@ impl Shape {
     /// The numbers of cabinets that such roads are timed with.
     pub fn cabinets(self) -> &'static [usize] {
         match self.manner {
-            Manner::Usual | Manner::Barred => &[10, 50, 200],
+            Manner::Usual | Manner::Barred | Manner::Jointed => &[10, 50, 200],
             Manner::Wide | Manner::Tied => &[200],
         }
     }
@@ -103,7 +107,10 @@ impl Shape {
         }
         let times = if self.manner == Manner::Wide { 100 } else { 1 };
         let mut amount = |low, high| random.between(low, high) as u16;
-        let [capacity, price] = [amount(60, 300), amount(1, 100 * times)];
+        let [mut capacity, price] = [amount(60, 300), amount(1, 100 * times)];
+        if self.manner == Manner::Jointed && c % 3 == 2 {
+            capacity = 0;
+        }
         let [up, up_price, down, down_price] = match c {
             0 => [0; 4],
             _ => [
