@@ -57,6 +57,30 @@ fn no_service_and_one_cabinet() {
     assert_eq!((tables.costs, tables.choices), right);
 }
 
+/// A joint has a cost for the empty set alone, and for what can be under it. Leaf 1 is one; the root is
+/// one at first, and then holds the service of demand 0, which is on leaf 2 else.
+#[test]
+fn rows_of_joints() {
+    let cabinet = |parent, capacity| Cabinet::from_words([parent, capacity, 5, 0, 0, 0, 0]);
+    let star = |root, two| Sheet {
+        services: vec![0],
+        cabinets: vec![cabinet(NO_PARENT, root), cabinet(0, 0), cabinet(0, two)],
+        ..Sheet::default()
+    };
+    let (shut, open) = ([0, NONE], [0, 0]);
+    for (root, two, costs, choices) in [
+        (0, 1, [open, shut, open], [[0, 0], [2, 0], [2, 0]]),
+        (1, 1, [open, shut, open], [[0, 0], [3, 1], [3, 1]]),
+        (1, 0, [open, shut, shut], [[0, 0], [3, 1], [3, 1]]),
+        (0, 0, [shut, shut, shut], [[0, 0], [2, 0], [2, 0]]),
+    ] {
+        let (answer, tables) = keep(&tight(&star(root, two)), 1, 6, 6);
+        assert_eq!(answer.refusal, if root + two == 0 { 12 } else { 0 });
+        assert_eq!(tables.costs, costs.concat());
+        assert_eq!(tables.choices, choices.concat());
+    }
+}
+
 /// The counts sum up to the planner's, and the root's last entry is its cost.
 #[test]
 fn counts_and_costs() {
