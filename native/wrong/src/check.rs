@@ -1,5 +1,6 @@
 //! The check and its faults.
 
+use crate::joints::Found;
 use crate::loads::{Line, Load};
 use crate::{Fault, Faulty};
 use second::{Sheet, group};
@@ -34,10 +35,11 @@ impl Faulty {
     /// The refusal of a plan, and its cost.
     pub fn judge(&self, sheet: &Sheet, plan: &[u16]) -> (u64, u64) {
         let (r, s) = (sheet.services.len(), sheet.cabinets.len());
+        let stray = self.strays(sheet, plan);
         let long = plan.len() > r && !self.has(Fault::CheckLongPlan);
         let short = plan.len() < r && !self.has(Fault::CheckShortPlan);
         if long || short {
-            return (13, 0);
+            return (self.stray_first(stray, 13), 0);
         }
         let mut plan = plan.to_vec();
         plan.resize(r, 0);
@@ -48,20 +50,25 @@ impl Faulty {
         let forbidden = self.forbidden(sheet, &plan);
         if plan.iter().any(|&c| usize::from(c) >= s) {
             let bars_first = forbidden && self.has(Fault::CheckBarsBefore14);
-            return (if bars_first { 20 } else { 14 }, 0);
+            let number = self.stray_first(stray, 14);
+            return (if bars_first { 20 } else { number }, 0);
         }
         let loads = self.loads(sheet, &plan);
-        let overfull =
-            (0..s).any(|c| self.overfull(sheet, c, &loads[c]) || self.strays(sheet, &plan, c));
         let jammed = (1..s).any(|c| self.jammed(sheet, c, &loads[c]));
+        let found = Found {
+            forbidden,
+            overfull: (0..s).any(|c| self.overfull(sheet, c, &loads[c])),
+            stray: self.strays(sheet, &plan),
+            jammed: jammed || self.passes_joint(sheet, &plan),
+        };
         let cost = self.cost(sheet, &plan, &loads);
-        let refusal = self.first(forbidden, overfull, jammed);
-        let given = refusal == 0 || self.has(Fault::CheckCostRefused);
+        let refusal = self.spliced(&found, self.first(&found));
+        let given = refusal == 0 || self.has(Fault::CheckCostRefused) || self.with_cost(&found);
         (refusal, if given { cost } else { 0 })
     }
 
     /// The first of 20, 15 and 16 that applies, or 0.
-    fn first(&self, forbidden: bool, overfull: bool, jammed: bool) -> u64 {
+    fn first(&self, found: &Found) -> u64 {
         let order = match self.0 {
             Some(Fault::CheckLinksFirst) => [20, 16, 15],
             Some(Fault::CheckBarsAfter15) => [15, 20, 16],
@@ -69,9 +76,9 @@ impl Faulty {
             _ => [20, 15, 16],
         };
         let applies = |number: &u64| match number {
-            20 => forbidden,
-            15 => overfull,
-            _ => jammed,
+            20 => found.forbidden,
+            15 => found.overfull || found.stray,
+            _ => found.jammed,
         };
         order.into_iter().find(applies).unwrap_or(0)
     }

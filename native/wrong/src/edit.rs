@@ -4,6 +4,7 @@ use crate::keep::{Lent, refused};
 use crate::rows::{NONE, Rows};
 use crate::slip::Slip;
 use crate::span::Site;
+use crate::splice::Where;
 use crate::{Fault, Faulty};
 use second::Sheet;
 
@@ -163,7 +164,7 @@ impl Faulty {
         output: &mut [u16],
     ) -> (u64, [u64; 3]) {
         let plan = self.edited_plan(sheet, rows);
-        let (refusal, checked) = self.judge(sheet, &plan);
+        let (refusal, checked) = self.checker(Where::Edit).judge(sheet, &plan);
         let accepted = self.accepts(refusal, checked, cost);
         if accepted || self.has(Fault::EditOutputIn23) {
             output

@@ -2,22 +2,27 @@
 
 use crate::sentences::sentences;
 use crate::slip::{self, Slip};
+use crate::splice::{self, Splice, Where};
 use differ::Call;
 
 impl Fault {
     /// All faults.
     pub fn all() -> Vec<Fault> {
         let single = Fault::SENTENCES.iter().map(|&(fault, _)| fault);
-        single.chain(slip::faults()).collect()
+        let others = slip::faults().chain(splice::faults());
+        single.chain(others).collect()
     }
 
     pub fn sentence(self) -> String {
-        if let Fault::Span(call, slip) = self {
-            return slip::sentence(call, slip);
+        match self {
+            Fault::Span(call, slip) => slip::sentence(call, slip),
+            Fault::Joint(place, splice) => splice::sentence(place, splice),
+            _ => {
+                let mut sentences = Fault::SENTENCES.iter();
+                let found = sentences.find(|(other, _)| *other == self);
+                found.map_or("", |(_, sentence)| sentence).to_string()
+            }
         }
-        let mut sentences = Fault::SENTENCES.iter();
-        let found = sentences.find(|(other, _)| *other == self);
-        found.map_or("", |(_, sentence)| sentence).to_string()
     }
 }
 
@@ -26,6 +31,8 @@ sentences! {
     Fault {
         /// A slip about spans in one of the calls that plan.
         Span(Call, Slip),
+        /// Something about joints in some of the calls.
+        Joint(Where, Splice),
     }
     // The reader.
     ReadHighByteFirst "reader: the high byte of a word comes first"
@@ -139,7 +146,6 @@ sentences! {
     CheckTogether "check: both directions share a capacity"
     CheckDownFree "check: down capacities are not looked at"
     CheckThroughRoot "check: every path goes through the root"
-    CheckJointsNot "check: a joint takes services of demand 0"
     CheckFull "check: a cabinet may not be full"
     CheckFullLink "check: a link may not be full"
     CheckLinksFirst "check: 16 is given before 15"
@@ -165,7 +171,6 @@ sentences! {
     PlanCost32 "planner: costs are summed in 32 bits"
     PlanAlike "planner: both directions are priced alike"
     PlanCapacitySwapped "planner: up and down capacities are swapped"
-    PlanJointsNot "planner: a joint takes services of demand 0"
     PlanRootLeaf "planner: a root with one child is taken as a leaf"
     PlanExtraLeaf "planner: a service of demand 0 lands on an extra leaf"
     PlanOuterStreams "planner: streams to services outside X load no link"

@@ -68,12 +68,13 @@ impl Faulty {
             return (0, [0; 3]);
         };
         let rows = keeper.rows(&sheet, part.costs, part.choices);
-        let cost = rows.cost();
+        let (cost, count) = (rows.cost(), rows.count);
         let refusal = if cost >= NONE { 12 } else { 0 };
         self.keep_output(&sheet, &rows, refusal, part.output);
+        let rows = self.kept_rows(&sheet, rows);
         self.keep_tables(&sheet, &rows, refusal, &mut part);
         self.spill(&sheet, refusal, lent, site);
-        self.keep_values(refusal, cost, rows.count)
+        self.keep_values(refusal, cost, count)
     }
 
     /// Group, cost and count.

@@ -25,12 +25,14 @@ mod rows;
 mod sentences;
 mod slip;
 mod span;
+mod splice;
 mod subject;
 mod ties;
 mod writer;
 
 pub use fault::Fault;
 pub use slip::Slip;
+pub use splice::{Splice, Where};
 pub use subject::Faulty;
 
 use differ::{Tally, compare, compare_bounds, compare_spans};

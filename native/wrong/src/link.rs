@@ -2,6 +2,7 @@
 
 use crate::loads::{Runs, demand, one_a_pair};
 use crate::rows::NONE;
+use crate::splice::Where;
 use crate::{Fault, Faulty};
 use second::framing::taken;
 use second::{Cabinet, Sheet, Stream};
@@ -11,6 +12,9 @@ impl Faulty {
     pub fn link(&self, sheet: &Sheet, c: usize, set: usize, whole: usize) -> u64 {
         let cabinet = &sheet.cabinets[c];
         let runs = self.crossing(sheet, set, whole);
+        if self.held_up(Where::Plan, sheet, c, &runs) {
+            return NONE;
+        }
         let framing = self.link_framing(sheet, c, whole, &runs);
         let (mut rise, mut fall) = (cabinet.up_capacity, cabinet.down_capacity);
         if self.has(Fault::PlanCapacitySwapped) {

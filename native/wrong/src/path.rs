@@ -55,7 +55,13 @@ impl Faulty {
                 }
             }
             let old = self.has(Fault::EditOldKeys).then(|| reader.keys(&rows, p));
-            builder.rebuild(sheet, &bars, p, &mut rows);
+            let shut = p == cabinet && self.stays_shut(sheet, p, &rows);
+            let rebuilder = self.rebuilder(p, cabinet);
+            let rebuilder = rebuilder.as_ref().unwrap_or(&builder);
+            rebuilder.rebuild(sheet, &bars, p, &mut rows);
+            if shut {
+                rows.costs[p][1..].fill(NONE);
+            }
             if let Some(old) = old {
                 rows.keys[p] = old;
             }

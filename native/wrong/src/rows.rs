@@ -75,6 +75,7 @@ impl Faulty {
     fn recount(&self, sheet: &Sheet, rows: &mut Rows) {
         let (r, s) = (sheet.services.len(), sheet.cabinets.len());
         rows.count = self.other_framing(sheet).unwrap_or(rows.count);
+        rows.count = self.other_joints(sheet).unwrap_or(rows.count);
         match self.0 {
             Some(Fault::PlanLargerLeftOut) => {
                 let smaller = |c: usize| {

@@ -1,8 +1,8 @@
-//! What random cases show about joints.
+//! What random cases show about joints, and of the faults in them.
 
 use differ::{Event, Joint, Tally, Turn, compare};
 use second::random::{Random, Size, case};
-use wrong::Faulty;
+use wrong::{Fault, Faulty, first_difference};
 
 /// All that is told apart about joints comes up, and soon.
 #[test]
@@ -21,5 +21,18 @@ fn random_cases_have_all_there_is_about_joints() {
     for event in Joint::ALL.map(Event::Joint).into_iter().chain(made) {
         let times = tally.met(event);
         assert!(times >= 5, "{event:?} {times} times");
+    }
+}
+
+/// Random roads show each of the dozens of faults, and soon; the roads written down are not needed.
+#[test]
+fn every_fault_is_seen_within_a_thousand_cases() {
+    let mut all = Fault::all();
+    all.retain(|fault| matches!(fault, Fault::Joint(..)));
+    assert!(all.len() >= 90, "{} faults", all.len());
+    for fault in all {
+        let found = first_difference(Some(fault), 1000, 3);
+        let case = found.map(|(case, _)| case).unwrap_or_default();
+        assert!(case.parse::<usize>().is_ok(), "{}", fault.sentence());
     }
 }

@@ -2,7 +2,7 @@
 
 use differ::{Tally, compare, compare_bounds};
 use second::random::{Case, Random};
-use second::{billed, framed};
+use second::{billed, framed, jointed};
 use wrong::{Fault, Faulty, first_difference};
 
 #[test]
@@ -69,6 +69,12 @@ fn seen_by(cases: &[Case], start: &str) -> usize {
 fn every_fault_of_framing_is_seen_by_the_roads_written_down_for_it() {
     let cases: Vec<Case> = framed::all().iter().map(|road| road.case()).collect();
     assert!(seen_by(&cases, "framing in") >= 25);
+}
+
+#[test]
+fn every_fault_of_joints_is_seen_by_the_roads_written_down_for_them() {
+    let cases: Vec<Case> = jointed::all().iter().map(|road| road.case()).collect();
+    assert!(seen_by(&cases, "joints in") >= 90);
 }
 
 #[test]
