@@ -54,6 +54,7 @@ pub enum Joint {
 }
 
 impl Joint {
+    /// All that must come up.
     pub const ALL: [Joint; 21] = [
         Joint::Alone,
         Joint::Before16,

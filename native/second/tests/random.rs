@@ -2,12 +2,11 @@
 
 use second::bars::Bars;
 use second::build::tight;
-use second::check::{check_sheet, only_framing, only_joints};
+use second::check::{check_sheet, only_framing};
 use second::form::{Form, forms};
 use second::plan::solve;
 use second::random::amounts::just_enough;
 use second::random::damage::{Damage, damage};
-use second::random::joints::strayed;
 use second::random::road::{Kind, of_kind, road};
 use second::random::{Random, Size, case, layout::layout, tied};
 use second::{Sheet, build, check, plan, read};
@@ -260,47 +259,4 @@ fn costs_of_long_chains_pass_32_bits() {
         let answer = solve(&sheet);
         assert!(answer.cost > u64::from(u32::MAX), "{answer:?}");
     }
-}
-
-/// Joints at the root, in the middle, at leaves, everywhere and nowhere, and plans that only a joint
-/// is wrong with.
-#[test]
-fn roads_with_joints() {
-    let mut random = Random::new(18);
-    let mut seen = [0; 6];
-    for _ in 0..2000 {
-        let sheet = of_kind(&mut random, Kind::Joints, SIZE);
-        let s = sheet.cabinets.len();
-        let joint = |c: usize| sheet.cabinets[c].is_joint();
-        let inner = |p: usize| (1..s).any(|c| usize::from(sheet.cabinets[c].parent) == p);
-        let strayed = strayed(&mut random, &sheet);
-        let manners = [
-            s > 1 && joint(0) && !(1..s).any(joint),
-            (1..s).any(|c| joint(c) && inner(c)) && !joint(0),
-            (1..s).any(|c| joint(c) && !inner(c)) && !joint(0),
-            (0..s).all(joint),
-            (0..s).filter(|&c| !joint(c)).count() == 1,
-            strayed.iter().any(|plan| only_joints(&sheet, plan)),
-        ];
-        for (times, holds) in seen.iter_mut().zip(manners) {
-            *times += usize::from(holds);
-        }
-    }
-    assert!(seen.iter().all(|&times| times > 50), "{seen:?}");
-}
-
-/// A joint holds nothing, so that a plan that strays is refused by the check, whatever else is wrong.
-#[test]
-fn plans_with_a_service_on_a_joint() {
-    let mut random = Random::new(19);
-    let mut refusals: BTreeMap<u64, usize> = BTreeMap::new();
-    for _ in 0..1000 {
-        let sheet = of_kind(&mut random, Kind::Joints, SIZE);
-        for plan in strayed(&mut random, &sheet) {
-            let refusal = check_sheet(&sheet, &plan).err().unwrap_or(0);
-            *refusals.entry(refusal).or_default() += 1;
-        }
-    }
-    let [barred, stray, past] = [20, 15, 14].map(|n| refusals.get(&n).copied().unwrap_or(0));
-    assert!(barred > 50 && stray > 200 && past > 100, "{refusals:?}");
 }

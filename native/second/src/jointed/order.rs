@@ -4,6 +4,7 @@ use super::{Jointed, barring, road};
 use crate::limits::NO_PARENT;
 use crate::sheet::Sheet;
 
+/// All of them.
 pub fn all() -> Vec<Jointed> {
     vec![
         alone(),

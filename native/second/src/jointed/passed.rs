@@ -5,6 +5,7 @@ use crate::limits::{AMOUNT, NO_PARENT};
 use crate::measured::z;
 use crate::sheet::Sheet;
 
+/// All of them.
 pub fn all() -> Vec<Jointed> {
     let all = [
         along_a_row(),

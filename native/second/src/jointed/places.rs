@@ -4,6 +4,7 @@
 use super::{Jointed, chain, free, star};
 use crate::limits::{CABINETS, SERVICES};
 
+/// All of them.
 pub fn all() -> Vec<Jointed> {
     let all = [
         on_a_star(),

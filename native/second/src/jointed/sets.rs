@@ -4,6 +4,7 @@
 use super::{Jointed, barring, chain, road, star};
 use crate::limits::NO_PARENT;
 
+/// All of them.
 pub fn all() -> Vec<Jointed> {
     let all = [
         first_of_several(),
