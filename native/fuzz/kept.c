@@ -4,9 +4,9 @@
 
 #include "chain.h"
 #include "edits.h"
-#include "joint.h"
 #include "keeper.h"
 #include "require.h"
+#include "sharing.h"
 #include "spanned.h"
 #include "strange.h"
 #include "tally.h"

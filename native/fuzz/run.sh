@@ -18,7 +18,7 @@ compile() {
         native/fuzz/{tariffs,dearest,random}.c \
         native/fuzz/{target,rules,layout,reader,checker,loads,planner,rivals,tidy,copy}.c \
         native/fuzz/{kept,workspace,keeper,entries,tables,editor,edits,chain,strange}.c \
-        native/fuzz/{spanned,spanner,span,pair,joint,example}.c \
+        native/fuzz/{spanned,spanner,span,pair,sharing,example}.c \
         native/fuzz/{bill,reckoning,tally,refusals,lent,input,arena,require}.c \
         target/staticlib/libgazrieksne.a -o "$build/$name"
 }

@@ -1,5 +1,5 @@
-/* joint.c: two roads in one pair of tables, each in a span of its own. */
-#include "joint.h"
+/* sharing.c: two roads in one pair of tables, each in a span of its own. */
+#include "sharing.h"
 
 #include "chain.h"
 #include "edits.h"

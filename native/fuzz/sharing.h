@@ -1,6 +1,6 @@
-/* joint.h: two roads in one pair of tables, each in a span of its own. */
-#ifndef JOINT_H
-#define JOINT_H
+/* sharing.h: two roads in one pair of tables, each in a span of its own. */
+#ifndef SHARING_H
+#define SHARING_H
 
 #include "lent.h"
 
