@@ -32,11 +32,14 @@
  * ------
  * A plan gives each service a cabinet. A stream runs along the only simple path between the
  * cabinets of its ends. It takes its demand of every direction of a link that it runs along, and,
- * if its demand is above 0, 2 more for its framing; these sum up to the load of a direction. The
- * plan is valid when no service is on a cabinet that it is barred from, no cabinet holds more
- * demand than its capacity, and no direction of a link has a load above its capacity. Its cost is
- * demand times price, summed over the services (by their cabinets) and over each link of each
- * stream's path (by the direction taken); framing is not priced.
+ * if its demand is above 0, 2 more for its framing; these sum up to the load of a direction. A
+ * cabinet of capacity 0 is a joint: lines are spliced there, and there is no power. Streams run
+ * through a joint as through any other cabinet, but it holds no service, not even one of demand 0.
+ * The plan is valid when no service is on a cabinet that it is barred from, no service is on a
+ * joint, no cabinet holds more demand than its capacity, and no direction of a link has a load
+ * above its capacity. Its cost is demand times price, summed over the services (by their cabinets)
+ * and over each link of each stream's path (by the direction taken); framing is not priced. A sheet
+ * without services has one plan, which is valid and costs 0, even if every cabinet is a joint.
  *
  * What calls answer
  * -----------------
@@ -79,7 +82,7 @@
  *     13  it hasn't exactly r places
  *     14  a cabinet number is not below s: one of the plan, or that of the cabinet edited
  *     20  a service is on a cabinet that it is barred from
- *     15  a cabinet is overfull
+ *     15  a cabinet is overfull, or a service is on a joint
  *     16  a direction of a link is overfull, framing counted
  *     23  the tables are not those of a sheet that differs from this one in the record of this
  *         cabinet alone: call gz_keep with this sheet
@@ -169,8 +172,10 @@ uint64_t gz_plan(const uint8_t *sheet, size_t sheet_len, uint16_t *output, size_
  *   costs    In the row of a cabinet: the least that it costs to place the set on this cabinet and
  *            all under it, with the links between these, but not the link above the cabinet.
  *            Services outside the set count as being elsewhere: a stream between one of them and
- *            one of the set takes and pays the links that it runs along below the cabinet. A
- *            cost is at most 10^15; 10^15 + 1 stands where there is no way to place the set.
+ *            one of the set takes and pays the links that it runs along below the cabinet. The
+ *            empty set costs 0, in the row of a joint too; any other set of a joint's row goes to
+ *            cabinets under the joint. A cost is at most 10^15; 10^15 + 1 stands where there is no
+ *            way to place the set.
  *   choices  A cabinet's children are joined to it one after the other, in rising order. When
  *            child c is joined, each set is split into what stays on the part of the road before
  *            c, which is its parent, the children joined before c and all under those, and the
@@ -191,8 +196,10 @@ uint64_t gz_keep(const uint8_t *sheet, size_t sheet_len, uint16_t *output, size_
  * again. Returns 0 if there is a plan, else 1 to 12, 14, 18, 19 or 23.
  *   sheet, sheet_len      the sheet after the change. It differs from the last one that was taken
  *                         with these tables at most in the record of this cabinet: its capacity,
- *                         its price, the capacities and prices of its link. Its parent, all other
- *                         records and the barred pairs must be the same; the layout need not.
+ *                         its price, the capacities and prices of its link. A capacity of 0 makes a
+ *                         joint of it, and any other makes it a cabinet that holds services. Its
+ *                         parent, all other records and the barred pairs must be the same; the
+ *                         layout need not.
  *   cabinet               the number of the cabinet
  *   output, output_len    as for gz_plan
  *   costs, costs_len      the tables as the last call left them that took them: gz_keep or gz_edit,
