@@ -5,6 +5,7 @@
 
 #include "edits.h"
 #include "editor.h"
+#include "joints.h"
 #include "keeper.h"
 #include "require.h"
 #include "tally.h"
@@ -75,6 +76,9 @@ static void step(const struct run *run, int from, int to, size_t cabinet, struct
     require(same_tables(tables, &stage->tables, (size_t)(counts[2] << counts[1])),
             "After success and after 12 these hold what gz_keep would leave for this sheet");
     count_step(&stages[from].planning, &editing);
+    if (counts[1] > 0)
+        count_joint_edit(&editing, is_joint(stages[from].input.sheet, cabinet),
+                         is_joint(stage->input.sheet, cabinet));
 }
 
 /* Numbers of no cabinet are refused at any time, on roads without a plan too. */

@@ -4,6 +4,7 @@
 #include <string.h>
 
 #include "gazrieksne.h"
+#include "joints.h"
 #include "layout.h"
 #include "loads.h"
 #include "refusals.h"
@@ -29,18 +30,24 @@ int uses_barred(const uint8_t *sheet, const uint16_t *plan)
     return 0;
 }
 
-/* True if a cabinet of an accepted sheet holds more demand than its capacity. */
-static int is_overfull(const uint8_t *sheet, const uint16_t *plan, size_t places)
+/* The services that so many places give a cabinet. */
+static size_t services_of(const uint8_t *sheet, size_t places)
 {
+    return places < count_of(sheet, SERVICES) ? places : count_of(sheet, SERVICES);
+}
+
+int is_overfull(const uint8_t *sheet, const uint16_t *plan, size_t places)
+{
+    size_t many = services_of(sheet, places);
     size_t i;
     size_t other;
 
-    for (i = 0; i < places; i++) {
+    for (i = 0; i < many; i++) {
         uint64_t held = 0;
-        for (other = 0; other < places; other++)
+        for (other = 0; other < many; other++)
             if (plan[other] == plan[i])
                 held += field_at(sheet, SERVICES, other, 0);
-        if (held > field_at(sheet, CABINETS, plan[i], 1))
+        if (plan[i] < count_of(sheet, CABINETS) && held > field_at(sheet, CABINETS, plan[i], 1))
             return 1;
     }
     return 0;
@@ -58,26 +65,46 @@ static uint64_t first_refusal(const struct run *run, const struct reading *readi
         return 14;
     if (uses_barred(run->input->sheet, plan))
         return 20;
-    return is_overfull(run->input->sheet, plan, places) ? 15 : 0;
+    if (is_overfull(run->input->sheet, plan, places) || uses_joint(run->input->sheet, plan, places))
+        return 15;
+    return 0;
+}
+
+/* What the links say of a plan that nothing but joints stands in the way of. */
+static void expect_links(struct checking *expected, const uint8_t *sheet, const uint16_t *plan)
+{
+    struct loads loads;
+    int overfull;
+
+    reckon_loads(&loads, sheet, plan);
+    overfull = has_overfull_line(sheet, &loads, FRAMING);
+    if (expected->on_joint) {
+        expected->valid_otherwise = !overfull;
+        expected->cost_otherwise = cost_of(sheet, plan, &loads);
+    } else if (overfull) {
+        expected->number = 16;
+        expected->overfull_by_framing = !has_overfull_line(sheet, &loads, 0);
+    } else {
+        expected->answer[1] = cost_of(sheet, plan, &loads);
+        expected->idle_stream = has_idle_stream(sheet, &loads);
+        expected->through_joint = crosses_joint(sheet, &loads);
+    }
 }
 
 struct checking expect_check(const struct run *run, const struct reading *reading,
                              const uint16_t *plan, size_t places)
 {
     const uint8_t *sheet = run->input->sheet;
-    struct checking expected = {first_refusal(run, reading, plan, places), {0, 0}, 0, 0};
-    struct loads loads;
+    struct checking expected;
 
-    if (expected.number != 0)
+    memset(&expected, 0, sizeof expected);
+    expected.number = first_refusal(run, reading, plan, places);
+    if (reading->number != 0)
         return expected;
-    reckon_loads(&loads, sheet, plan);
-    if (has_overfull_line(sheet, &loads, FRAMING)) {
-        expected.number = 16;
-        expected.overfull_by_framing = !has_overfull_line(sheet, &loads, 0);
-    } else {
-        expected.answer[1] = cost_of(sheet, plan, &loads);
-        expected.idle_stream = has_idle_stream(sheet, &loads);
-    }
+    expected.on_joint = uses_joint(sheet, plan, services_of(sheet, places))
+                        && !is_overfull(sheet, plan, places);
+    if (expected.number == 0 || (expected.number == 15 && expected.on_joint))
+        expect_links(&expected, sheet, plan);
     return expected;
 }
 

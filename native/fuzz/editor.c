@@ -81,6 +81,7 @@ static void require_told(const struct run *run, const struct reading *reading,
         return;
     follow_choices(tables, run->input->sheet, 0, ((size_t)1 << r) - 1, plan);
     checking = expect_check(run, reading, plan, r);
+    count_joint_led(&checking, cost);
     require((editing->number == 0) == (checking.number == 0 && checking.answer[1] == cost),
             "If gz_check accepts this plan at the cost in that entry, it is written and told ..; "
             "if not, the answer is 23");

@@ -3,6 +3,7 @@
 
 #include <string.h>
 
+#include "joints.h"
 #include "layout.h"
 #include "loads.h"
 #include "require.h"
@@ -26,7 +27,8 @@ static struct road road_of(const uint8_t *sheet)
     return road;
 }
 
-/* What a set costs on this cabinet itself; NO_WAY if it is barred or has no room there. */
+/* What a set costs on this cabinet itself; NO_WAY if it is barred or has no room there. A joint has
+ * room for the empty set alone. */
 static uint64_t cost_on(const struct road *road, size_t cabinet, size_t set)
 {
     uint64_t demand = 0;
@@ -35,25 +37,15 @@ static uint64_t cost_on(const struct road *road, size_t cabinet, size_t set)
     for (i = 0; i < road->r; i++)
         if (set >> i & 1)
             demand += field_at(road->sheet, SERVICES, i, 0);
-    if ((set & road->barred[cabinet]) != 0
+    if ((set & road->barred[cabinet]) != 0 || (set != 0 && is_joint(road->sheet, cabinet))
         || demand > field_at(road->sheet, CABINETS, cabinet, CAPACITY))
         return NO_WAY;
     return demand * field_at(road->sheet, CABINETS, cabinet, PRICE);
 }
 
-static int has_child(const struct road *road, size_t cabinet)
-{
-    size_t c;
-
-    for (c = cabinet + 1; c < road->s; c++)
-        if (field_at(road->sheet, CABINETS, c, 0) == cabinet)
-            return 1;
-    return 0;
-}
-
 static void require_costs(const struct road *road, size_t cabinet, const uint64_t *row)
 {
-    int parent = has_child(road, cabinet);
+    int parent = has_child(road->sheet, cabinet);
     size_t set;
 
     require(row[0] == 0, "costs .. the least that it costs to place the set (the empty one)");
@@ -87,6 +79,46 @@ static void require_choices(const struct road *road, const uint16_t *row, const 
     }
 }
 
+/* True if the cabinet is the first child that is joined to its parent. */
+static int is_first_child(const struct road *road, size_t cabinet)
+{
+    size_t parent = field_at(road->sheet, CABINETS, cabinet, 0);
+    size_t c = parent + 1;
+
+    while (field_at(road->sheet, CABINETS, c, 0) != parent)
+        c++;
+    return c == cabinet;
+}
+
+/* How many sets have this one as a part. */
+static uint64_t sets_around(const struct road *road, size_t set)
+{
+    uint64_t many = 1;
+    size_t i;
+
+    for (i = 0; i < road->r; i++)
+        many *= set >> i & 1 ? 1 : 2;
+    return many;
+}
+
+/* The choices of a first child: what stays does so on the parent alone, and on a joint nothing. */
+static void require_first_choices(const struct road *road, size_t parent, const uint16_t *row)
+{
+    uint64_t splits = 0;
+    size_t set;
+
+    for (set = 0; set < (size_t)1 << road->r; set++) {
+        if (cost_on(road, parent, set) != NO_WAY)
+            splits += sets_around(road, set);
+        require(set == 0 || cost_on(road, parent, row[set]) != NO_WAY,
+                "what stays on the part of the road before c, which is its parent (there is no way "
+                "to place it there)");
+    }
+    require(row[0] == splits,
+            "how many splits this join weighed: pairs of a set and a part of it that can be placed "
+            "before c (on the parent alone)");
+}
+
 static void require_rows(const struct road *road, const struct tables *tables)
 {
     size_t c;
@@ -101,6 +133,8 @@ static void require_rows(const struct road *road, const struct tables *tables)
         require_costs(road, c, tables->costs + (c << road->r));
         require_choices(road, tables->choices + (c << road->r),
                         tables->costs + (parent << road->r));
+        if (is_first_child(road, c))
+            require_first_choices(road, parent, tables->choices + (c << road->r));
     }
 }
 

@@ -22,9 +22,9 @@ enum { GATE_INPUTS = 100000, GATE_SEED = 1, MOST_WORDS = 12 };
 static const char usage[] =
     "usage: fuzz [INPUTS [SEED]]\n"
     "Makes INPUTS inputs (default %d) from SEED (default %d), runs the target on each, and prints\n"
-    "how often each answer and some kinds of plans, bills, edits and spans were met. From %d\n"
-    "inputs on, it is a failure too if a call never gave an answer that it may give, or if no\n"
-    "plan, bill, edit or span of such a kind was met.\n";
+    "how often each answer and some kinds of plans, roads, bills, edits and spans were met. From\n"
+    "%d inputs on, it is a failure too if a call never gave an answer that it may give, or if no\n"
+    "plan, road, bill, edit or span of such a kind was met.\n";
 
 /* The input under way, for the line that a failure ends with. */
 static char under_way[64];
@@ -171,7 +171,7 @@ int main(int argc, char **argv)
     missing = tell();
     if (missing == 0 || inputs < GATE_INPUTS)
         return 0;
-    fprintf(stderr, "%d answers or kinds of plans, bills, edits and spans were never met\n",
+    fprintf(stderr, "%d answers or kinds of plans, roads, bills, edits and spans were never met\n",
             missing);
     return 1;
 }

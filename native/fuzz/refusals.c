@@ -33,7 +33,7 @@ static const struct refusal {
     {13, PLAN_WRITER, "13  it hasn't exactly r places"},
     {14, PLAN_WRITER, "14  a cabinet number is not below s"},
     {20, PLAN_WRITER, "20  a service is on a cabinet that it is barred from"},
-    {15, PLAN_WRITER, "15  a cabinet is overfull"},
+    {15, PLAN_WRITER, "15  a cabinet is overfull, or a service is on a joint"},
     {16, PLAN_WRITER, "16  a direction of a link is overfull, framing counted"},
     {12, ROAD, "12  no valid plan exists"},
     {23, PLAN_WRITER, "23  the tables are not those of a sheet that differs from this one in the "

@@ -4,19 +4,21 @@
 
 #include <string.h>
 
+#include "joints.h"
 #include "require.h"
 
 /* Up to so many cabinets all are tried, else some. */
 enum { FEW = 6, SOME = 3 };
 
-/* What rivals are held against, and how many of them cost as much. */
+/* What rivals are held against, the plan that one service is moved in, and what was met. */
 struct contest {
     const struct run *run;
     const struct reading *reading;
     const struct planning *planning;
     size_t r;
     size_t s;
-    size_t ties;
+    uint16_t base[MOST_SERVICES];
+    struct rivals met;
 };
 
 void require_not_better(const struct planning *planning, const struct checking *checking)
@@ -38,18 +40,32 @@ static int comes_before(const uint16_t *one, const uint16_t *other, size_t r)
     return i < r && one[i] < other[i];
 }
 
+/* True if joints alone keep a rival from being written. */
+static int is_kept_off(const struct contest *contest, const struct checking *checking,
+                       const uint16_t *rival)
+{
+    const struct planning *planning = contest->planning;
+
+    if (!checking->valid_otherwise)
+        return 0;
+    return planning->number == 12 || checking->cost_otherwise < planning->answer[1]
+           || (checking->cost_otherwise == planning->answer[1]
+               && comes_before(rival, planning->plan, contest->r));
+}
+
 static void try_rival(struct contest *contest, const uint16_t *rival)
 {
     const struct planning *planning = contest->planning;
     struct checking checking = check_plan(contest->run, contest->reading, rival, contest->r);
 
     require_not_better(planning, &checking);
+    contest->met.kept_off += (size_t)is_kept_off(contest, &checking, rival);
     if (planning->number != 0 || checking.number != 0
         || checking.answer[1] != planning->answer[1])
         return;
     require(!comes_before(rival, planning->plan, contest->r),
             "the one with the lowest cabinet for service 0, then for service 1, and so on");
-    contest->ties += memcmp(rival, planning->plan, contest->r * sizeof *rival) != 0;
+    contest->met.ties += memcmp(rival, planning->plan, contest->r * sizeof *rival) != 0;
 }
 
 /* How many of the cabinets below a number are tried. */
@@ -76,7 +92,7 @@ static void move_one(struct contest *contest)
     for (i = 0; i < contest->r; i++) {
         uint16_t rival[MOST_SERVICES];
 
-        memcpy(rival, contest->planning->plan, sizeof rival);
+        memcpy(rival, contest->base, sizeof rival);
         rival[i] = (uint16_t)(input_word(contest->run->input, i) % contest->s);
         try_rival(contest, rival);
     }
@@ -153,20 +169,37 @@ static void lower_some(struct contest *contest)
     }
 }
 
-size_t require_no_rival(const struct run *run, const struct reading *reading,
-                        const struct planning *planning)
+/* The plan written, or all services on the first cabinet that is no joint; on the root if all
+ * are. */
+static void take_base(struct contest *contest)
 {
-    struct contest contest = {run, reading, planning, 0, 0, 0};
+    uint16_t c = 0;
+    size_t i;
+
+    memcpy(contest->base, contest->planning->plan, sizeof contest->base);
+    if (contest->planning->number == 0)
+        return;
+    while (c < contest->s && is_joint(contest->run->input->sheet, c))
+        c++;
+    for (i = 0; i < contest->r && c < contest->s; i++)
+        contest->base[i] = c;
+}
+
+struct rivals require_no_rival(const struct run *run, const struct reading *reading,
+                               const struct planning *planning)
+{
+    struct contest contest = {run, reading, planning, 0, 0, {0}, {0, 0}};
 
     contest.r = (size_t)reading->counts[1];
     contest.s = (size_t)reading->counts[2];
-    if (planning->number != 0 && planning->number != 12)
-        return 0;
+    if (!is_taken(planning))
+        return contest.met;
+    take_base(&contest);
     move_one(&contest);
     if (planning->number == 12)
-        return 0;
+        return contest.met;
     lower_one(&contest);
     exchange(&contest);
     lower_some(&contest);
-    return contest.ties;
+    return contest.met;
 }

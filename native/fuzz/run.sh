@@ -16,7 +16,7 @@ compile() {
         -fsanitize=address,undefined -fno-sanitize-recover=all -Inative/include "$@" \
         native/fuzz/{main,told,sheets,bars,links,damage,damage_fourth}.c \
         native/fuzz/{tariffs,dearest,random}.c \
-        native/fuzz/{target,rules,layout,reader,checker,loads,planner,rivals,tidy,copy}.c \
+        native/fuzz/{target,rules,layout,reader,checker,loads,planner,rivals,tidy,copy,joints}.c \
         native/fuzz/{kept,workspace,keeper,entries,tables,editor,edits,chain,strange}.c \
         native/fuzz/{spanned,spanner,span,pair,sharing,example}.c \
         native/fuzz/{bill,reckoning,tally,refusals,lent,input,arena,require}.c \

@@ -84,3 +84,13 @@ int is_under(const uint8_t *sheet, size_t cabinet, size_t upper)
         cabinet = field_at(sheet, CABINETS, cabinet, 0);
     return cabinet == upper;
 }
+
+int has_child(const uint8_t *sheet, size_t cabinet)
+{
+    size_t c;
+
+    for (c = cabinet + 1; c < count_of(sheet, CABINETS); c++)
+        if (field_at(sheet, CABINETS, c, 0) == cabinet)
+            return 1;
+    return 0;
+}

@@ -40,4 +40,7 @@ void follow_choices(const struct tables *tables, const uint8_t *sheet, size_t ca
 /* True if the cabinet is the upper one, or lies under it. */
 int is_under(const uint8_t *sheet, size_t cabinet, size_t upper);
 
+/* True if the cabinet has cabinets under it. */
+int has_child(const uint8_t *sheet, size_t cabinet);
+
 #endif

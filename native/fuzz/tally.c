@@ -1,8 +1,9 @@
-/* tally.c: how often each answer was met, and how often some kinds of plans, bills, edits and
- * spans. */
+/* tally.c: how often each answer was met, and how often some kinds of plans, roads, bills, edits
+ * and spans. */
 #include "tally.h"
 
 #include "gazrieksne.h"
+#include "layout.h"
 
 enum { MOST_AMOUNT = 10000 };
 
@@ -131,4 +132,45 @@ void count_roads(int first, int apart, int called)
     else
         tally.kinds[apart ? APART : TOUCHING]++;
     tally.kinds[called ? CALLED_FIRST : CALLED_SECOND]++;
+}
+
+void count_joint_plan(const struct checking *checking)
+{
+    tally.kinds[JOINT_ALONE] += checking->on_joint && checking->number == 15;
+    tally.kinds[JOINT_FIRST] +=
+        checking->on_joint && checking->number == 15 && !checking->valid_otherwise;
+    tally.kinds[LENGTH_FIRST] += checking->on_joint && checking->number == 13;
+    tally.kinds[NUMBER_FIRST] += checking->on_joint && checking->number == 14;
+    tally.kinds[BARS_FIRST] += checking->on_joint && checking->number == 20;
+    tally.kinds[THROUGH_JOINT] += checking->through_joint != 0;
+}
+
+void count_joint_road(const uint8_t *sheet, const struct planning *planning, int kept_off)
+{
+    int has_service = count_of(sheet, SERVICES) > 0;
+    int stand;
+
+    tally.kinds[JOINT_DECIDED] += planning->number == 0 && kept_off;
+    tally.kinds[JOINT_CLOSED] += planning->number == 12 && kept_off;
+    if (planning->number != 0)
+        return;
+    for (stand = 0; stand < STANDS; stand++)
+        tally.kinds[STANDING + stand] += has_service && has_joint(sheet, stand);
+    tally.kinds[ALL_JOINTS] += !has_service && count_joints(sheet) == count_of(sheet, CABINETS);
+}
+
+void count_joint_edit(const struct planning *editing, int was, int is)
+{
+    if (editing->number == 0) {
+        tally.kinds[MADE_PLAN] += !was && is;
+        tally.kinds[UNMADE_PLAN] += was && !is;
+    } else if (editing->number == 12) {
+        tally.kinds[MADE_NONE] += !was && is;
+        tally.kinds[UNMADE_NONE] += was && !is;
+    }
+}
+
+void count_joint_led(const struct checking *checking, uint64_t cost)
+{
+    tally.kinds[STRANGE_JOINT] += checking->valid_otherwise && checking->cost_otherwise == cost;
 }

@@ -1,11 +1,13 @@
-/* tally.h: how often each answer was met, and how often some kinds of plans, bills, edits and
- * spans. */
+/* tally.h: how often each answer was met, and how often some kinds of plans, roads, bills, edits
+ * and spans. */
 #ifndef TALLY_H
 #define TALLY_H
 
 #include <stdint.h>
 
 #include "bill.h"
+#include "checker.h"
+#include "joints.h"
 #include "planner.h"
 #include "refusals.h"
 #include "span.h"
@@ -34,7 +36,8 @@ enum { LOADS_SOUGHT = 5, THOUSANDTHS_SOUGHT = 3 };
 /* What can stand in the way of a call in a span, in the order of giving. */
 enum { SHORT_OUTPUT, PAST_COSTS, PAST_CHOICES, SHORT_SPAN, NO_CABINET, SPAN_CAUSES };
 
-/* What is counted once for each input, for each bill, for each edit, or for each span. */
+/* What is counted once for each input, for each bill, for each edit, or for each span. Joints keep a
+ * plan off if it is valid but for services on them. */
 enum kind {
     TIED,   /* inputs with a plan beside which another was met that costs as much */
     FRAMED, /* inputs that draw a plan refused with 16 for framing alone */
@@ -73,6 +76,21 @@ enum kind {
     APART_FIRST,    /* the same with entries between */
     CALLED_SECOND,  /* two roads of which the other one is kept first */
     CALLED_FIRST,   /* two roads of which the input's is kept first */
+    JOINT_ALONE,    /* inputs that draw a plan refused with 15 for joints alone */
+    JOINT_FIRST,    /* of these, those where 16 applies too */
+    LENGTH_FIRST,   /* inputs that draw a plan refused with 13 where a joint alone would give 15 */
+    NUMBER_FIRST,   /* the same with 14 */
+    BARS_FIRST,     /* the same with 20 */
+    THROUGH_JOINT,  /* inputs that draw a valid plan with a stream through a joint */
+    JOINT_DECIDED,  /* inputs with a plan beside which joints keep off one to be preferred */
+    JOINT_CLOSED,   /* inputs with 12 where joints keep a plan off */
+    STANDING,       /* from here on, plans with a service on a road with a joint that stands so */
+    ALL_JOINTS = STANDING + STANDS, /* plans without a service on a road of joints */
+    MADE_PLAN,                      /* edits of kept tables that make a joint, with a plan */
+    MADE_NONE,                      /* the same with 12 */
+    UNMADE_PLAN,    /* edits of kept tables after which a joint is none, with a plan */
+    UNMADE_NONE,    /* the same with 12 */
+    STRANGE_JOINT,  /* edits with 23 for joints alone */
     KINDS
 };
 
@@ -112,5 +130,18 @@ void count_shared(const struct planning *editing);
 /* Counts two roads that share tables: whether the input's comes first there, whether there are
  * entries between, and whether the input's is kept first. */
 void count_roads(int first, int apart, int called);
+
+/* Counts a plan that an input draws, by what it has to do with joints. */
+void count_joint_plan(const struct checking *checking);
+
+/* Counts the joints of an accepted sheet, of which this was told, and whether a plan was met that
+ * joints alone keep from being written. */
+void count_joint_road(const uint8_t *sheet, const struct planning *planning, int kept_off);
+
+/* Counts an edit of kept tables, by whether the cabinet was a joint and is one. */
+void count_joint_edit(const struct planning *editing, int was, int is);
+
+/* Counts an edit with tables that lead to this plan, at this cost. */
+void count_joint_led(const struct checking *checking, uint64_t cost);
 
 #endif

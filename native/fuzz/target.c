@@ -5,6 +5,7 @@
 
 #include "bill.h"
 #include "checker.h"
+#include "joints.h"
 #include "kept.h"
 #include "layout.h"
 #include "planner.h"
@@ -20,7 +21,7 @@ struct outcome {
     struct planning planning;
     struct billing written; /* the bill of the plan written, if one is */
     uint64_t tidying;       /* the number that gz_tidy returned */
-    size_t ties;            /* other plans met that cost as much as the one written */
+    struct rivals rivals;   /* those of the plan written, or of none with 12 */
 };
 
 /* Checks and bills the plan that the input draws, of whatever length it says. */
@@ -56,7 +57,6 @@ static struct outcome call_all(const struct run *run, struct copy *copy)
     call_drawn(run, &outcome);
     outcome.planning = find_plan(run, &outcome.reading);
     bound_header(run);
-    outcome.ties = 0;
     return outcome;
 }
 
@@ -116,6 +116,8 @@ static void require_written(const struct run *run, struct outcome *outcome)
         return;
     require(!uses_barred(run->input->sheet, outcome->planning.plan),
             "The plan is valid when no service is on a cabinet that it is barred from");
+    require(!uses_joint(run->input->sheet, outcome->planning.plan, r),
+            "The plan is valid when .. no service is on a joint");
     checking = check_plan(run, &outcome->reading, outcome->planning.plan, r);
     require(checking.number != 16,
             "The plan is valid when .. no direction of a link has a load above its capacity");
@@ -144,16 +146,37 @@ static void check_barred(const struct run *run, const struct outcome *outcome)
     }
 }
 
-static void count(const struct outcome *outcome)
+/* Plans that differ from the plan found, or from all services on the root if none was, by a service
+ * on a joint, which the input draws. */
+static void check_joints(const struct run *run, const struct outcome *outcome)
+{
+    size_t r = (size_t)outcome->reading.counts[1];
+    size_t i;
+
+    if (outcome->reading.number != 0 || count_joints(run->input->sheet) == 0)
+        return;
+    for (i = 0; i < r; i++) {
+        uint16_t plan[MOST_SERVICES];
+
+        memcpy(plan, outcome->planning.plan, sizeof plan);
+        plan[i] = joint_of(run->input->sheet, input_word(run->input, i));
+        check_plan(run, &outcome->reading, plan, r);
+    }
+}
+
+static void count(const struct input *input, const struct outcome *outcome)
 {
     tally.inputs++;
     tally.met[READ][outcome->reading.number]++;
     tally.met[CHECK][outcome->checking.number]++;
     tally.met[FIND][outcome->planning.number]++;
     tally.met[TIDY][outcome->tidying]++;
-    tally.kinds[TIED] += outcome->ties > 0;
+    tally.kinds[TIED] += outcome->rivals.ties > 0;
     tally.kinds[FRAMED] += outcome->checking.overfull_by_framing != 0;
     tally.kinds[IDLE] += outcome->checking.idle_stream != 0;
+    count_joint_plan(&outcome->checking);
+    if (outcome->reading.number == 0)
+        count_joint_road(input->sheet, &outcome->planning, outcome->rivals.kept_off > 0);
     count_number(&outcome->billing);
     count_kinds(&outcome->billing);
     if (outcome->planning.number == 0)
@@ -181,8 +204,9 @@ int LLVMFuzzerTestOneInput(const uint8_t *data, size_t size)
     keep_and_edit(&first, &second, &one.reading, &one.planning, &copy);
     require_not_better(&one.planning, &one.checking);
     require_written(&first, &one);
-    one.ties = require_no_rival(&second, &one.reading, &one.planning);
+    one.rivals = require_no_rival(&second, &one.reading, &one.planning);
     check_barred(&second, &one);
-    count(&one);
+    check_joints(&second, &one);
+    count(&input, &one);
     return 0;
 }

@@ -56,6 +56,23 @@ static const char *const kinds[KINDS] = {
     [APART_FIRST] = "pairs of roads with entries between, the input's first",
     [CALLED_SECOND] = "pairs of roads of which the other one is kept first",
     [CALLED_FIRST] = "pairs of roads of which the input's is kept first",
+    [JOINT_ALONE] = "plans refused with 15 for joints alone",
+    [JOINT_FIRST] = "plans refused with 15 for joints alone where 16 applies too",
+    [LENGTH_FIRST] = "plans refused with 13 where a joint alone would give 15",
+    [NUMBER_FIRST] = "plans refused with 14 where a joint alone would give 15",
+    [BARS_FIRST] = "plans refused with 20 where a joint alone would give 15",
+    [THROUGH_JOINT] = "plans accepted with a stream through a joint",
+    [JOINT_DECIDED] = "plans beside which joints keep off one to be preferred",
+    [JOINT_CLOSED] = "roads without a plan on which joints keep one off",
+    [STANDING + AT_ROOT] = "plans on roads with a joint at the root",
+    [STANDING + IN_MIDDLE] = "plans on roads with a joint in the middle",
+    [STANDING + AT_LEAF] = "plans on roads with a joint at a leaf",
+    [ALL_JOINTS] = "plans without a service on roads of joints",
+    [MADE_PLAN] = "edits that make a joint, with a plan",
+    [MADE_NONE] = "edits that make a joint, with 12",
+    [UNMADE_PLAN] = "edits after which a joint is none, with a plan",
+    [UNMADE_NONE] = "edits after which a joint is none, with 12",
+    [STRANGE_JOINT] = "edits refused with 23 for joints alone",
 };
 
 static int plans(int column)
@@ -127,7 +144,7 @@ static int tell_number(uint64_t number)
     return missing;
 }
 
-/* Prints how often plans, bills, edits or spans of a kind were met. Gives 1 if none was. */
+/* Prints how often plans, roads, bills, edits or spans of a kind were met. Gives 1 if none was. */
 static int tell_kind(int kind)
 {
     printf("%" PRIu64 " %s\n", tally.kinds[kind], kinds[kind]);

@@ -2,8 +2,8 @@
 #ifndef TOLD_H
 #define TOLD_H
 
-/* Prints the tally. Gives the number of answers and of kinds of plans, bills, edits and spans that
- * were never met. */
+/* Prints the tally. Gives the number of answers and of kinds of plans, roads, bills, edits and
+ * spans that were never met. */
 int tell(void);
 
 #endif
