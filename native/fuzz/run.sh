@@ -14,7 +14,7 @@ compile() {
     shift
     cc -std=c99 -Wall -Wextra -Werror -O1 -g \
         -fsanitize=address,undefined -fno-sanitize-recover=all -Inative/include "$@" \
-        native/fuzz/{main,told,sheets,bars,links,damage,damage_fourth}.c \
+        native/fuzz/{main,told,sheets,bars,links,splices,damage,damage_fourth}.c \
         native/fuzz/{tariffs,dearest,random}.c \
         native/fuzz/{target,rules,layout,reader,checker,loads,planner,rivals,tidy,copy,joints}.c \
         native/fuzz/{kept,workspace,keeper,entries,tables,editor,edits,chain,strange}.c \

@@ -7,6 +7,7 @@
 #include "input.h"
 #include "layout.h"
 #include "links.h"
+#include "splices.h"
 
 enum { MOST_AMOUNT = 10000, NO_PARENT = 65535 };
 enum { CAPACITY = 1, UP_CAPACITY = 3, DOWN_CAPACITY = 5, CABINET_FIELDS = 7 };
@@ -224,6 +225,8 @@ size_t draw_sheet(struct random *random, uint8_t *bytes, const uint16_t *words)
     memset(bytes, random_once_in(random, 2) ? 0 : 255, length);
     write_header(&road, bytes, length, offset);
     write_records(random, &road, bytes);
+    if (random_once_in(random, 4))
+        splice(random, bytes);
     if (road.fitted)
         fit_links(random, bytes, words);
     return length;
