@@ -84,11 +84,12 @@ struct bound {
     uint64_t number;
 };
 
-/* One fault: the calls that it makes wrong, the sheet that all calls are given instead, or what it
- * changes in the right bill of a valid plan. */
+/* One fault: the calls that it makes wrong, the sheet that all calls are given instead, or all that
+ * plan, or what it changes in the right bill of a valid plan. */
 struct fault {
     const char *what;
     struct sheet (*sheet)(struct sheet sheet);
+    struct sheet (*planned)(struct sheet sheet);
     void (*read)(struct read *call);
     void (*service)(struct record *call);
     void (*cabinet)(struct record *call);
@@ -113,6 +114,9 @@ extern const struct fault fourth_faults[];
 extern const struct fault reader_faults[];
 extern const struct fault checker_faults[];
 extern const struct fault framing_faults[];
+extern const struct fault joint_faults[];
+extern const struct fault spliced_faults[];
+extern const struct fault resplice_faults[];
 extern const struct fault planner_faults[];
 extern const struct fault first_faults[];
 extern const struct fault keep_faults[];

@@ -3,6 +3,7 @@
 
 #include "faults.h"
 #include "input.h"
+#include "joints.h"
 #include "layout.h"
 #include "lent.h"
 
@@ -194,7 +195,7 @@ static void plan_count_dirty(struct plan *call)
         call->answer[2]--;
 }
 
-/* A service of demand 0 may sit anywhere where there is no stream. */
+/* A service of demand 0 may sit anywhere but on a joint where there is no stream. */
 static void plan_place_dirty(struct plan *call)
 {
     struct counts counts = counts_of(call->sheet);
@@ -202,7 +203,8 @@ static void plan_place_dirty(struct plan *call)
 
     real_plan(call);
     if (call->number == 0 && counts.r > 0 && counts.q == 0
-        && word_at(call->sheet.bytes, word_at(call->sheet.bytes, 6)) == 0)
+        && word_at(call->sheet.bytes, word_at(call->sheet.bytes, 6)) == 0
+        && !is_joint(call->sheet.bytes, held % counts.s))
         call->output[0] = (uint16_t)(held % counts.s);
 }
 

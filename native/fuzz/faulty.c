@@ -234,7 +234,8 @@ static const struct fault *find(unsigned long number)
 {
     static const struct fault none = {.what = "none"};
     const struct fault *lists[] = {sheet_faults, fourth_faults, reader_faults, checker_faults,
-                                   framing_faults, planner_faults, first_faults,
+                                   framing_faults, joint_faults, spliced_faults,
+                                   resplice_faults, planner_faults, first_faults,
                                    keep_faults, edit_faults, rows_faults, alike_faults,
                                    span_faults, outside_faults, reckoning_faults, bill_faults,
                                    lines_faults, copy_faults, tidy_faults};
@@ -267,6 +268,14 @@ static struct sheet given(const uint8_t *bytes, size_t length)
     struct sheet sheet = {bytes, length};
 
     return chosen()->sheet != NULL ? chosen()->sheet(sheet) : sheet;
+}
+
+/* The sheet that a call is given which plans. */
+static struct sheet planned(const uint8_t *bytes, size_t length)
+{
+    struct sheet sheet = given(bytes, length);
+
+    return chosen()->planned != NULL ? chosen()->planned(sheet) : sheet;
 }
 
 uint64_t __wrap_gz_read(const uint8_t *sheet, size_t sheet_len, uint64_t *counts)
@@ -322,7 +331,7 @@ uint64_t __wrap_gz_plan(const uint8_t *sheet, size_t sheet_len, uint16_t *output
                         uint64_t *costs, size_t costs_len, uint16_t *choices, size_t choices_len,
                         uint64_t *answer)
 {
-    struct plan call = {given(sheet, sheet_len), output, output_len, costs, costs_len, choices,
+    struct plan call = {planned(sheet, sheet_len), output, output_len, costs, costs_len, choices,
                         choices_len, answer, 0};
 
     (chosen()->plan != NULL ? chosen()->plan : real_plan)(&call);
@@ -333,7 +342,7 @@ uint64_t __wrap_gz_keep(const uint8_t *sheet, size_t sheet_len, uint16_t *output
                         uint64_t *costs, size_t costs_len, uint16_t *choices, size_t choices_len,
                         uint64_t *answer)
 {
-    struct plan call = {given(sheet, sheet_len), output, output_len, costs, costs_len, choices,
+    struct plan call = {planned(sheet, sheet_len), output, output_len, costs, costs_len, choices,
                         choices_len, answer, 0};
 
     (chosen()->keep != NULL ? chosen()->keep : real_keep)(&call);
@@ -344,7 +353,7 @@ uint64_t __wrap_gz_edit(const uint8_t *sheet, size_t sheet_len, size_t cabinet, 
                         size_t output_len, uint64_t *costs, size_t costs_len, uint16_t *choices,
                         size_t choices_len, uint64_t *answer)
 {
-    struct edit call = {{given(sheet, sheet_len), output, output_len, costs, costs_len, choices,
+    struct edit call = {{planned(sheet, sheet_len), output, output_len, costs, costs_len, choices,
                          choices_len, answer, 0},
                         cabinet};
 
@@ -357,7 +366,7 @@ uint64_t __wrap_gz_plan_span(const uint8_t *sheet, size_t sheet_len, uint16_t *o
                              uint16_t *choices, size_t choices_len, size_t first, size_t number,
                              uint64_t *answer)
 {
-    struct spanned call = {{{given(sheet, sheet_len), output, output_len, costs, costs_len,
+    struct spanned call = {{{planned(sheet, sheet_len), output, output_len, costs, costs_len,
                              choices, choices_len, answer, 0},
                             0},
                            first, number, real_plan_span};
@@ -371,7 +380,7 @@ uint64_t __wrap_gz_keep_span(const uint8_t *sheet, size_t sheet_len, uint16_t *o
                              uint16_t *choices, size_t choices_len, size_t first, size_t number,
                              uint64_t *answer)
 {
-    struct spanned call = {{{given(sheet, sheet_len), output, output_len, costs, costs_len,
+    struct spanned call = {{{planned(sheet, sheet_len), output, output_len, costs, costs_len,
                              choices, choices_len, answer, 0},
                             0},
                            first, number, real_keep_span};
@@ -385,7 +394,7 @@ uint64_t __wrap_gz_edit_span(const uint8_t *sheet, size_t sheet_len, size_t cabi
                              size_t costs_len, uint16_t *choices, size_t choices_len,
                              size_t first, size_t number, uint64_t *answer)
 {
-    struct spanned call = {{{given(sheet, sheet_len), output, output_len, costs, costs_len,
+    struct spanned call = {{{planned(sheet, sheet_len), output, output_len, costs, costs_len,
                              choices, choices_len, answer, 0},
                             cabinet},
                            first, number, real_edit_span};

@@ -33,6 +33,7 @@ mkdir -p "$build"
 compile fuzz
 compile fuzz-faulty "${wrapped[@]/#/-Wl,--wrap=gz_}" \
     native/fuzz/{faulty,faults_sheet,faults_fourth,faults_reader,faults_checker}.c \
+    native/fuzz/{faults_joints,faults_spliced,faults_resplice,spliced}.c \
     native/fuzz/{faults_framing,faults_planner,faults_first,faults_reckoning,faults_bill}.c \
     native/fuzz/{faults_lines,faults_copy,faults_tidy,faults_keep,faults_edit,faults_rows}.c \
     native/fuzz/{faults_alike,faults_spans,faults_outside,held}.c

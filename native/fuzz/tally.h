@@ -36,8 +36,8 @@ enum { LOADS_SOUGHT = 5, THOUSANDTHS_SOUGHT = 3 };
 /* What can stand in the way of a call in a span, in the order of giving. */
 enum { SHORT_OUTPUT, PAST_COSTS, PAST_CHOICES, SHORT_SPAN, NO_CABINET, SPAN_CAUSES };
 
-/* What is counted once for each input, for each bill, for each edit, or for each span. Joints keep a
- * plan off if it is valid but for services on them. */
+/* What is counted once for each input, for each bill, for each edit, or for each span. Joints keep
+ * a plan off if it is valid but for services on them. */
 enum kind {
     TIED,   /* inputs with a plan beside which another was met that costs as much */
     FRAMED, /* inputs that draw a plan refused with 16 for framing alone */
