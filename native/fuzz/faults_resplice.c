@@ -1,4 +1,4 @@
-/* faults_resplice.c: gz_edit, which takes a joint that is made or is none any more wrongly on
+/* faults_resplice.c: gz_edit, which takes a cabinet that becomes a joint or was one wrongly on
  * purpose. */
 #include <string.h>
 
@@ -158,7 +158,7 @@ static void edit_hands_out(struct edit *call)
 
 const struct fault resplice_faults[] = {
     {.what = "gz_edit makes no joint", .edit = edit_makes_none},
-    {.what = "gz_edit keeps a joint that is none any more", .edit = edit_unmakes_none},
+    {.what = "gz_edit leaves a joint a joint that gets room", .edit = edit_unmakes_none},
     {.what = "gz_edit leaves the costs of a cabinet made a joint", .edit = edit_leaves_row},
     {.what = "gz_edit answers 12 for an edit of a joint", .edit = edit_closes},
     {.what = "gz_edit answers 23 for an edit of a joint", .edit = edit_suspects},

@@ -56,6 +56,11 @@ static struct sheet splice_capacity_one(struct sheet sheet)
     return splice_sheet(sheet, of_capacity_one);
 }
 
+static struct sheet splice_under_joint(struct sheet sheet)
+{
+    return splice_sheet(sheet, under_joint);
+}
+
 /* Nothing of demand above 0 runs along a link at a joint. */
 static struct sheet splice_stops(struct sheet sheet)
 {
@@ -128,24 +133,47 @@ static int has_more_splits(const struct plan *call)
            && field_at(call->sheet.bytes, SERVICES, 0, 0) == 0;
 }
 
-/* Counts the splits in which service 0 alone stays on a joint at the root. */
-static void plan_more_splits(struct plan *call)
-{
-    real_plan(call);
-    if (has_more_splits(call))
-        call->answer[2] += (uint64_t)1 << (counts_of(call->sheet).r - 1);
-}
-
-/* The same, and keeps them. */
-static void keep_more_splits(struct plan *call)
+/* Counts the splits in which service 0 alone stays on a joint at the root, and keeps them in the
+ * choices, if there are any. */
+static void count_more(struct plan *call, uint16_t *choices)
 {
     size_t r = counts_of(call->sheet).r;
 
+    if (!has_more_splits(call))
+        return;
+    call->answer[2] += (uint64_t)1 << (r - 1);
+    if (choices != NULL)
+        choices[(size_t)1 << r] += (uint16_t)(1u << (r - 1));
+}
+
+static void plan_more_splits(struct plan *call)
+{
+    real_plan(call);
+    count_more(call, NULL);
+}
+
+static void keep_more_splits(struct plan *call)
+{
     real_keep(call);
-    if (has_more_splits(call)) {
-        call->answer[2] += (uint64_t)1 << (r - 1);
-        call->choices[(size_t)1 << r] += (uint16_t)(1u << (r - 1));
-    }
+    count_more(call, call->choices);
+}
+
+static void edit_more_splits(struct edit *call)
+{
+    real_edit(call);
+    count_more(&call->plan, call->plan.choices);
+}
+
+static void plan_span_more_splits(struct spanned *call)
+{
+    call->real(call);
+    count_more(&call->edit.plan, NULL);
+}
+
+static void span_more_splits(struct spanned *call)
+{
+    call->real(call);
+    count_more(&call->edit.plan, call->edit.plan.choices + call->first);
 }
 
 /* Changes kept costs: the rows of the joints that stand so, for services of these demands. */
@@ -241,6 +269,8 @@ const struct fault spliced_faults[] = {
     {.what = "the calls that plan take price 0 for a joint", .planned = splice_price_zero},
     {.what = "the calls that plan take capacity 1 for a joint too",
      .planned = splice_capacity_one},
+    {.what = "the calls that plan take cabinets under a joint for joints too",
+     .planned = splice_under_joint},
     {.what = "the calls that plan let no stream through a joint", .planned = splice_stops},
     {.what = "gz_plan takes demand 0 on a joint", .plan = plan_no_joint},
     {.what = "gz_keep takes demand 0 on a joint", .keep = keep_no_joint},
@@ -250,9 +280,13 @@ const struct fault spliced_faults[] = {
     {.what = "gz_plan and gz_keep answer 12 for joints without a service",
      .plan = plan_refuses_joints,
      .keep = keep_refuses_joints},
-    {.what = "gz_plan and gz_keep count splits that leave demand 0 on a joint",
+    {.what = "the calls that plan count splits that leave demand 0 on a joint",
      .plan = plan_more_splits,
-     .keep = keep_more_splits},
+     .keep = keep_more_splits,
+     .edit = edit_more_splits,
+     .plan_span = plan_span_more_splits,
+     .keep_span = span_more_splits,
+     .edit_span = span_more_splits},
     {.what = "gz_keep keeps demand 0 on a joint at a leaf", .keep = keep_idle_at_leaf},
     {.what = "gz_keep keeps demand 0 on a joint in the middle", .keep = keep_idle_in_middle},
     {.what = "gz_keep keeps no way for the empty set on a joint", .keep = keep_no_empty_set},

@@ -53,6 +53,13 @@ int of_capacity_one(const uint8_t *sheet, size_t cabinet)
     return field_at(sheet, CABINETS, cabinet, CAPACITY) <= 1;
 }
 
+int under_joint(const uint8_t *sheet, size_t cabinet)
+{
+    while (cabinet > 0 && !is_joint(sheet, cabinet))
+        cabinet = field_at(sheet, CABINETS, cabinet, 0);
+    return is_joint(sheet, cabinet);
+}
+
 static void take_bans(struct bans *bans, const uint8_t *sheet)
 {
     size_t i;
