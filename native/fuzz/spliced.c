@@ -112,13 +112,14 @@ struct sheet spliced(struct sheet sheet, splices *splices)
     real_tidy(&tidy);
     take_bans(&bans, copy);
     for (c = 0; c < count_of(copy, CABINETS); c++) {
-        int joint = is_joint(copy, c);
-        int taken = splices(sheet.bytes, c);
+        size_t capacity = place_of(copy, CABINETS, c, CAPACITY);
 
-        if (joint && !taken)
+        if (splices(sheet.bytes, c)) {
+            put_word(copy, capacity, 0);
+        } else if (is_joint(copy, c)) {
+            put_word(copy, capacity, 1);
             ban_demand(&bans, copy, c);
-        if (joint != taken)
-            put_word(copy, place_of(copy, CABINETS, c, CAPACITY), joint);
+        }
     }
     made.length = put_bans(copy, &bans);
     return made;
