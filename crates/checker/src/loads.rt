@@ -1,9 +1,7 @@
 // What a plan's streams put on one link: the link above cabinet c carries the streams that leave the cabinets under c upwards, and
 // those that enter them downwards. Their framing is part of the load.
 ghost use mathlib.Core.Path.{_≡_};
-ghost use mathlib.Core.Bool.{false};
 ghost use Prim.Native.Nat.{_^_, _≤_, _<_};
-ghost use lib.ListN.{getD};
 ghost use Rattle.sheet.specs.Limits.{max-cabinets};
 ghost use Rattle.records.specs.Told.{told};
 ghost use Rattle.embedding.specs.Plan.{place};

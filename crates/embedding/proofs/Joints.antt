@@ -1,5 +1,5 @@
 -- Joints and the sets that can be placed: no set is placed with a service on a joint, and the empty set can always be placed.
-use Prim.Native.Nat.{ℕ, zero, suc, _+_, _^_, _≤_, _<_}
+use Prim.Native.Nat.{ℕ, zero, suc, _+_, _^_, _<_}
 use native.Mathlib.Nat.{one-le-pow}
 use native.Mathlib.Omega.{arith}
 use mathlib.Core.Path.{_≡_, refl, sym, ap, _∙_}
@@ -7,7 +7,7 @@ use mathlib.Core.Bool.{Bool, true, false, _&&_, not}
 use mathlib.Core.List.{[]}
 use lib.Dec.{eqb, ltb, leb}
 use borrow.Author.Tests.{ltb-true, eq-eqb, le-leb, not-true}
-use Rattle.finite.specs.Below.{_⇒_, only, sum-below, all-below}
+use Rattle.finite.specs.Below.{_⇒_, only, all-below}
 use Rattle.finite.proofs.Booleans.{clash, both, both-l, both-r, implies, implied}
 use Rattle.finite.proofs.Sums.{sum-zero}
 use Rattle.finite.proofs.Tests.{all-in, all-at, any-in}

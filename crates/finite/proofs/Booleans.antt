@@ -2,7 +2,7 @@
 use Prim.Native.Nat.{ℕ}
 use native.Mathlib.Omega.{arith}
 use mathlib.Core.Path.{_≡_, refl, sym, _∙_}
-use mathlib.Core.Bool.{Bool, true, false, _&&_, _||_, not}
+use mathlib.Core.Bool.{Bool, true, false, _&&_, _||_}
 use mathlib.Core.Logic.{_⊎_, inl, inr}
 use Rattle.finite.specs.Below.{_⇒_}
 
@@ -66,13 +66,6 @@ pub implied : (a b : Bool) → a ⇒ b ≡ true → a ≡ true → b ≡ true
 unfolding _⇒_
 implied true b h e = h
 implied false b h e = clash (sym e)
-
--- an implication fails exactly where what it asks of holds and what it asks for does not
-pub implication : (a b : Bool) → a ⇒ b ≡ not (a && not b)
-unfolding _⇒_
-implication true true = refl
-implication true false = refl
-implication false b = refl
 
 -- one more test in a row: the value v of the tests before is kept where it is true, else the value is that of the test
 pub or-taken : (v a x : Bool) → v ≡ a → v ≡ true → v ≡ a || x

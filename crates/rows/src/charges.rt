@@ -1,5 +1,7 @@
 // What cabinets and links charge for every set of services.
 ghost use mathlib.Core.Path.{_≡_};
+ghost use mathlib.Core.Bool.{cond};
+ghost use lib.Bits.{bitAnd};
 ghost use Prim.Native.Nat.{ℕ, _*_, _≤_, _<_};
 ghost use lib.ListN.{length, getD};
 ghost use Rattle.rows.specs.Charges.{max-sets, all-sums, into-row, own-figure, link-figure, demanded, flow-at, run-out, run-in};
@@ -49,6 +51,16 @@ fn priced(sum: u32, price: u16) -> u64
     s * p
 }
 
+// Those of the services x that a cabinet does not let in, whatever their demand: on a joint all of them, else those barred from it.
+fn kept_off(x: u32, k: Own) -> u32
+    ensures { λ y. ⌜ y ≡ cond (k .joint) x (bitAnd x (k .barred)) ⌝ }
+{
+    if k.joint {
+        return x;
+    }
+    x & widened(k.barred)
+}
+
 // What a cabinet charges for the services of x, of so much demand.
 fn own_charge(x: u32, demand: u32, k: Own) -> u64
     ensures { λ n. ⌜ n ≡ own-figure k x demand ⌝ }
@@ -56,10 +68,7 @@ fn own_charge(x: u32, demand: u32, k: Own) -> u64
     if word(k.capacity) < wide(demand) {
         return NONE;
     }
-    if k.joint & (x != 0) {
-        return NONE;
-    }
-    if x & widened(k.barred) != 0 {
+    if kept_off(x, k) != 0 {
         return NONE;
     }
     priced(demand, k.price)

@@ -38,10 +38,11 @@ pub fn keep(
 }
 
 /// Plans anew after one cabinet was changed: its capacity, its price, or the capacities and prices of
-/// its link, but not its parent. A capacity of 0 makes a joint of it, any other a cabinet again. The tables must be as `keep` or the last `edit` left them, and the
-/// sheet must differ from the one of that call in this cabinet only. Then answer, output and tables
-/// are those of `keep` on this sheet; but only the rows from the cabinet up to the root are built
-/// anew, so that an edit costs the joins on that path.
+/// its link, but not its parent. A capacity of 0 makes a joint of it, any other a cabinet again. The
+/// tables must be as `keep` or the last `edit` left them, and the sheet must differ from the one of
+/// that call in this cabinet only. Then answer, output and tables are those of `keep` on this sheet;
+/// but only the rows from the cabinet up to the root are built anew, so that an edit costs the joins
+/// on that path.
 ///
 /// The cabinet's number must be one of the sheet's, else the refusal is 14. Refusal 12 (no valid
 /// plan) leaves tables that the next edit can use; all refusals that come before it leave everything
