@@ -1,37 +1,14 @@
-//! The roads on which framing decides answer as is written down for them.
+//! What a stream takes of a link, and what framing alone decides.
 
 use second::check::{check_sheet, only_framing};
 use second::framed::all;
 use second::framing::{FRAMING, taken};
 use second::measured::m_records;
-use second::plan::solve;
-use second::{check, group};
 
 #[test]
 fn what_a_stream_takes() {
     assert_eq!(FRAMING, 2);
     assert_eq!([0, 1, 2, 10_000].map(taken), [0, 3, 4, 10_002]);
-}
-
-#[test]
-fn planner() {
-    for road in all() {
-        let answer = solve(&road.sheet);
-        let given = [answer.refusal, answer.cost, answer.count];
-        assert_eq!(given, road.answer, "{}", road.name);
-        assert_eq!(answer.group, group(answer.refusal), "{}", road.name);
-        assert_eq!(answer.plan.unwrap_or_default(), road.plan, "{}", road.name);
-    }
-}
-
-#[test]
-fn checks() {
-    for road in all() {
-        let case = road.case();
-        for (plan, answer) in &road.checks {
-            assert_eq!(check(&case.sheet, plan), *answer, "{}: {plan:?}", road.name);
-        }
-    }
 }
 
 /// Every plan here that gets 16 would be valid without framing.

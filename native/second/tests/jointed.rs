@@ -1,10 +1,11 @@
-//! The roads on which joints decide answer as is written down for them.
+//! What a joint is, and what it alone decides.
 
+use second::Cabinet;
 use second::check::{check_sheet, only_joints};
 use second::jointed::all;
 use second::measured::{m_records, z};
 use second::plan::solve;
-use second::{Cabinet, check, group};
+use second::written::Written;
 
 #[test]
 fn what_a_joint_is() {
@@ -14,38 +15,13 @@ fn what_a_joint_is() {
     assert!(Cabinet::from_words([0, 0, 9, 9, 9, 9, 9]).is_joint());
 }
 
-#[test]
-fn planner() {
-    for road in all() {
-        let answer = solve(&road.sheet);
-        let given = [answer.refusal, answer.cost, answer.count];
-        assert_eq!(given, road.answer, "{}", road.name);
-        assert_eq!(answer.group, group(answer.refusal), "{}", road.name);
-        assert_eq!(answer.plan.unwrap_or_default(), road.plan, "{}", road.name);
-    }
-}
-
-#[test]
-fn checks() {
-    for road in all() {
-        let case = road.case();
-        for (plan, answer) in &road.checks {
-            assert_eq!(check(&case.sheet, plan), *answer, "{}: {plan:?}", road.name);
-        }
-    }
-}
-
-/// Every road has a name of its own, a joint, or a cabinet in its place on the same road.
+/// Most of them have a joint; the others have a cabinet in its place.
 #[test]
 fn enough_of_them() {
     let all = all();
-    assert!(all.len() >= 40, "{} roads", all.len());
-    let mut names: Vec<&str> = all.iter().map(|road| road.name).collect();
-    names.sort();
-    names.dedup();
-    assert_eq!(names.len(), all.len());
-    let joint = |road: &second::jointed::Jointed| road.sheet.cabinets.iter().any(Cabinet::is_joint);
-    assert!(all.iter().filter(|road| joint(road)).count() >= 40);
+    let joint = |road: &&Written| road.sheet.cabinets.iter().any(Cabinet::is_joint);
+    let times = all.iter().filter(joint).count();
+    assert!(times >= 40, "{times} of {} roads", all.len());
 }
 
 /// A service of demand above 0 overfills a joint, so that 15 is not for the joint alone.

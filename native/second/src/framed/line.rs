@@ -1,10 +1,10 @@
 //! Capacities of one link that just suffice for the streams over it, or lack a unit.
 
-use super::{Framed, streams};
+use super::{Written, streams};
 use crate::limits::NO_PARENT;
 use crate::sheet::{Cabinet, Sheet, Stream};
 
-pub fn all() -> Vec<Framed> {
+pub fn all() -> Vec<Written> {
     let all = [
         one_stream(),
         largest_streams(),
@@ -38,17 +38,17 @@ pub fn line(words: &[[u16; 3]], [up, down]: [u16; 2]) -> Sheet {
 const COUNT: u64 = 4 + 2 + 2;
 
 /// These capacities suffice, at this cost.
-fn fits(name: &'static str, words: &[[u16; 3]], capacities: [u16; 2], cost: u64) -> Framed {
+fn fits(name: &'static str, words: &[[u16; 3]], capacities: [u16; 2], cost: u64) -> Written {
     let sheet = line(words, capacities);
-    Framed::planned(name, sheet, [cost, COUNT], &[0, 1])
+    Written::planned(name, sheet, [cost, COUNT], &[0, 1])
 }
 
 /// These capacities do not suffice.
-fn lacks(name: &'static str, words: &[[u16; 3]], capacities: [u16; 2]) -> Framed {
-    Framed::refused(name, line(words, capacities), COUNT, &[0, 1])
+fn lacks(name: &'static str, words: &[[u16; 3]], capacities: [u16; 2]) -> Written {
+    Written::refused(name, line(words, capacities), COUNT, &[0, 1])
 }
 
-fn one_stream() -> Vec<Framed> {
+fn one_stream() -> Vec<Written> {
     let (down, up) = ([[0, 1, 1]], [[1, 0, 1]]);
     vec![
         fits("a stream of 1 down a line of 3", &down, [0, 3], 8),
@@ -61,7 +61,7 @@ fn one_stream() -> Vec<Framed> {
 }
 
 /// The largest stream that the largest capacity suffices for, and larger ones.
-fn largest_streams() -> Vec<Framed> {
+fn largest_streams() -> Vec<Written> {
     let of = |demand| [[0, 1, demand]];
     vec![
         fits("a stream of 9,998", &of(9_998), [0, 10_000], 49_993),
@@ -72,7 +72,7 @@ fn largest_streams() -> Vec<Framed> {
 }
 
 /// Streams of one pair, each with its framing.
-fn two_streams() -> Vec<Framed> {
+fn two_streams() -> Vec<Written> {
     let down = [[0, 1, 3], [0, 1, 4]];
     let same = [[1, 0, 3]; 2];
     vec![
@@ -86,7 +86,7 @@ fn two_streams() -> Vec<Framed> {
 }
 
 /// A stream each way, each with its framing in its own direction.
-fn both_ways() -> Vec<Framed> {
+fn both_ways() -> Vec<Written> {
     let both = [[0, 1, 3], [1, 0, 4]];
     vec![
         fits("a stream each way", &both, [6, 5], 30),
@@ -98,7 +98,7 @@ fn both_ways() -> Vec<Framed> {
 }
 
 /// Streams of demand 0 have no framing.
-fn idle_streams() -> Vec<Framed> {
+fn idle_streams() -> Vec<Written> {
     let both = [[0, 1, 0], [1, 0, 0]];
     let beside = [[0, 1, 0], [0, 1, 1], [1, 0, 0]];
     vec![
@@ -109,7 +109,7 @@ fn idle_streams() -> Vec<Framed> {
     ]
 }
 
-fn hundred_streams() -> Vec<Framed> {
+fn hundred_streams() -> Vec<Written> {
     let of = |demand| [[0, 1, demand]; 100];
     let half = |k| if k % 2 == 0 { [0, 1, 1] } else { [1, 0, 1] };
     let halves: Vec<[u16; 3]> = (0..100).map(half).collect();
@@ -126,7 +126,7 @@ fn hundred_streams() -> Vec<Framed> {
 }
 
 /// Every fifth stream and the one after it of demand 0, the other 60 of demand 1.
-fn idle_among_hundred() -> Vec<Framed> {
+fn idle_among_hundred() -> Vec<Written> {
     let words = |k| [0, 1, u16::from(k % 5 > 1)];
     let some: Vec<[u16; 3]> = (0..100).map(words).collect();
     vec![
@@ -150,14 +150,14 @@ fn fan(words: &[[u16; 3]], [up, down]: [u16; 2]) -> Sheet {
 }
 
 /// One service sends to two others, or two to one: each stream has its framing.
-fn several_services() -> Vec<Framed> {
+fn several_services() -> Vec<Written> {
     const COUNT: u64 = 8 + 4 + 4 + 2 + 4;
     let (down, up) = ([[0, 1, 1], [0, 2, 1]], [[1, 0, 1], [2, 0, 1]]);
     let fits = |name, words, capacities, cost| {
-        Framed::planned(name, fan(words, capacities), [cost, COUNT], &[0, 1, 1])
+        Written::planned(name, fan(words, capacities), [cost, COUNT], &[0, 1, 1])
     };
     let lacks =
-        |name, words, capacities| Framed::refused(name, fan(words, capacities), COUNT, &[0, 1, 1]);
+        |name, words, capacities| Written::refused(name, fan(words, capacities), COUNT, &[0, 1, 1]);
     vec![
         fits("one sends to two", &down, [0, 6], 16),
         lacks("one sends to two, one short", &down, [6, 5]),
@@ -170,7 +170,7 @@ fn several_services() -> Vec<Framed> {
 
 /// A stream of 1 from each of ten services to each other, five of them on the root and five under
 /// it: 25 cross each way. Up to five of the ten can be placed on the root.
-fn five_and_five() -> Vec<Framed> {
+fn five_and_five() -> Vec<Written> {
     const COUNT: u64 = 1_024 + 10 * 512 + 45 * 256 + 120 * 128 + 210 * 64 + 252 * 32;
     let stream = |k: u16| Stream::from_words([k / 9, (k / 9 + k % 9 + 1) % 10, 1]);
     let sheet = |[up, down]: [u16; 2]| Sheet {
@@ -183,9 +183,9 @@ fn five_and_five() -> Vec<Framed> {
         barred: vec![],
     };
     let plan = [0, 0, 0, 0, 0, 1, 1, 1, 1, 1];
-    let lacks = |name, capacities| Framed::refused(name, sheet(capacities), COUNT, &plan);
+    let lacks = |name, capacities| Written::refused(name, sheet(capacities), COUNT, &plan);
     vec![
-        Framed::planned("25 each way", sheet([75; 2]), [210, COUNT], &plan),
+        Written::planned("25 each way", sheet([75; 2]), [210, COUNT], &plan),
         lacks("25 each way, one short up", [74, 75]),
         lacks("25 each way, one short down", [75, 74]),
     ]

@@ -4,22 +4,20 @@ mod line;
 mod path;
 mod sets;
 
-pub use crate::written::Written as Framed;
-
 use crate::sheet::Sheet;
-use crate::written::streams;
+use crate::written::{Written, streams};
 
-impl Framed {
+impl Written {
     /// A road without a valid plan, this count, and a plan that overfills a link and no cabinet.
-    fn refused(name: &'static str, sheet: Sheet, count: u64, jammed: &[u16]) -> Framed {
-        let mut road = Framed::without_plan(name, sheet, count);
+    fn refused(name: &'static str, sheet: Sheet, count: u64, jammed: &[u16]) -> Written {
+        let mut road = Written::without_plan(name, sheet, count);
         road.checks.push((jammed.to_vec(), Err(16)));
         road
     }
 }
 
 /// All of them.
-pub fn all() -> Vec<Framed> {
+pub fn all() -> Vec<Written> {
     let mut all = line::all();
     all.extend(path::all());
     all.extend(sets::all());

@@ -1,10 +1,10 @@
 //! Paths of several links: a stream has its framing on each.
 
-use super::{Framed, streams};
+use super::{Written, streams};
 use crate::limits::NO_PARENT;
 use crate::sheet::{Cabinet, Sheet};
 
-pub fn all() -> Vec<Framed> {
+pub fn all() -> Vec<Written> {
     let mut all = along_a_chain();
     all.extend(over_two_legs());
     all
@@ -28,19 +28,24 @@ fn chain(ups: [u16; 3], downs: [u16; 3]) -> Sheet {
 
 /// Capacities that just suffice on each link, and one short on each in turn. Before the first link
 /// no service or either can be placed, before the others none.
-fn along_a_chain() -> Vec<Framed> {
+fn along_a_chain() -> Vec<Written> {
     const COUNT: u64 = (4 + 2 + 2) + 4 + 4;
     let cost = 3 + 3 * (10 + 20 + 30) + 4 * (1 + 2 + 3);
     let whole = chain([6; 3], [5; 3]);
-    let mut all = vec![Framed::planned("a chain", whole, [cost, COUNT], &[0, 3])];
-    for link in 0..3 {
+    let mut all = vec![Written::planned("a chain", whole, [cost, COUNT], &[0, 3])];
+    let names = [
+        ["a chain, short up at 1", "a chain, short down at 1"],
+        ["a chain, short up at 2", "a chain, short down at 2"],
+        ["a chain, short up at 3", "a chain, short down at 3"],
+    ];
+    for (link, [short_up, short_down]) in names.into_iter().enumerate() {
         let (mut ups, mut downs) = ([6; 3], [5; 3]);
         ups[link] -= 1;
         downs[link] -= 1;
         let up = chain(ups, [5; 3]);
         let down = chain([6; 3], downs);
-        all.push(Framed::refused("a chain, short up", up, COUNT, &[0, 3]));
-        all.push(Framed::refused("a chain, short down", down, COUNT, &[0, 3]));
+        all.push(Written::refused(short_up, up, COUNT, &[0, 3]));
+        all.push(Written::refused(short_down, down, COUNT, &[0, 3]));
     }
     all
 }
@@ -64,12 +69,12 @@ fn legs([up_3, up_1, down_2, down_4]: [u16; 4]) -> Sheet {
 
 /// Capacities that just suffice on each link, and one short on each in turn. Before each of four
 /// cabinets no service can be placed, and before 2 also service 0, if its stream gets to the root.
-fn over_two_legs() -> Vec<Framed> {
+fn over_two_legs() -> Vec<Written> {
     const EMPTY: u64 = 4 * 4;
     let cost = 3 + 3 * (1 + 2 + 3 + 4);
-    let road = |name, capacities, count| Framed::refused(name, legs(capacities), count, &[3, 4]);
+    let road = |name, capacities, count| Written::refused(name, legs(capacities), count, &[3, 4]);
     vec![
-        Framed::planned("two legs", legs([5; 4]), [cost, EMPTY + 2], &[3, 4]),
+        Written::planned("two legs", legs([5; 4]), [cost, EMPTY + 2], &[3, 4]),
         road("two legs, short up at 3", [4, 5, 5, 5], EMPTY),
         road("two legs, short up at 1", [5, 4, 5, 5], EMPTY),
         road("two legs, short down at 2", [5, 5, 4, 5], EMPTY + 2),

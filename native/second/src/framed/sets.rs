@@ -1,11 +1,11 @@
 //! Framing that decides which sets can be placed, and which of several ways a stream takes.
 
 use super::line::line;
-use super::{Framed, streams};
+use super::{Written, streams};
 use crate::limits::{AMOUNT, NO_PARENT};
 use crate::sheet::{Cabinet, Pair, Sheet};
 
-pub fn all() -> Vec<Framed> {
+pub fn all() -> Vec<Written> {
     let all = [
         beside_the_root(),
         under_the_root(),
@@ -35,13 +35,13 @@ fn aside(root: u16, words: &[[u16; 3]], [up, down]: [u16; 2]) -> Sheet {
 }
 
 /// The same with this count.
-fn counted(name: &'static str, sheet: Sheet, count: u64) -> Framed {
-    Framed::planned(name, sheet, [2, count], &[2, 2])
+fn counted(name: &'static str, sheet: Sheet, count: u64) -> Written {
+    Written::planned(name, sheet, [2, count], &[2, 2])
 }
 
 /// Before 1 and before 2 no service or either can be placed on the root. Before 2 also both, if the
 /// stream between them gets up or down the link of 1.
-fn beside_the_root() -> Vec<Framed> {
+fn beside_the_root() -> Vec<Written> {
     const EITHER: u64 = 2 * (4 + 2 + 2);
     let road = |capacities| aside(1, &[[0, 1, 3]], capacities);
     let (down, up) = (([0, 1], Ok(21)), ([1, 0], Ok(21)));
@@ -55,7 +55,7 @@ fn beside_the_root() -> Vec<Framed> {
 
 /// The root holds nothing. Before 1 and before 2 no service can be placed; before 2 also the one
 /// that sends, if its streams get up to the root, and the one that receives, if they get down.
-fn under_the_root() -> Vec<Framed> {
+fn under_the_root() -> Vec<Written> {
     const NONE: u64 = 2 * 4;
     let one = |capacities| aside(0, &[[0, 1, 3]], capacities);
     let two = |capacities| aside(0, &[[0, 1, 1]; 2], capacities);
@@ -74,7 +74,7 @@ fn under_the_root() -> Vec<Framed> {
 }
 
 /// Cabinet 3, under 1, has room for one service in its stead; before 3 none can be placed either.
-fn two_links_down() -> Vec<Framed> {
+fn two_links_down() -> Vec<Written> {
     const NONE: u64 = 3 * 4;
     let road = |[up_1, up_3, down_1, down_3]: [u16; 4]| {
         let mut sheet = aside(0, &[[0, 1, 3]], [up_1, down_1]);
@@ -113,22 +113,22 @@ fn ways(words: [[u16; 3]; 2]) -> Sheet {
 const EITHER: u64 = 2 * (4 + 2 + 2);
 
 /// The cheaper way just suffices, or lacks a unit, so that the dearer one or none is left.
-fn dearer_way() -> Vec<Framed> {
+fn dearer_way() -> Vec<Written> {
     let road = |cheap, dear| ways([[1, cheap, 1], [2, dear, 4]]);
     let jammed = ([0, 1], Err(16));
     vec![
-        Framed::planned("the cheaper way", road(5, 5), [8, EITHER + 1], &[0, 1])
+        Written::planned("the cheaper way", road(5, 5), [8, EITHER + 1], &[0, 1])
             .checked(&[([0, 2], Ok(18))]),
-        Framed::planned("the dearer way", road(4, 5), [18, EITHER], &[0, 2]).checked(&[jammed]),
-        Framed::refused("neither way", road(4, 4), EITHER, &[0, 2]).checked(&[jammed]),
+        Written::planned("the dearer way", road(4, 5), [18, EITHER], &[0, 2]).checked(&[jammed]),
+        Written::refused("neither way", road(4, 4), EITHER, &[0, 2]).checked(&[jammed]),
     ]
 }
 
 /// The first way costs 5 + 3 × 4 and the second 9 + 3 × 3; with framing priced the second would be
 /// the cheaper one.
-fn unpriced() -> Vec<Framed> {
+fn unpriced() -> Vec<Written> {
     let road = ways([[1, 5, 4], [5, 5, 3]]);
-    let road = Framed::planned("framing is not priced", road, [17, EITHER + 1], &[0, 1]);
+    let road = Written::planned("framing is not priced", road, [17, EITHER + 1], &[0, 1]);
     vec![road.checked(&[([0, 2], Ok(18))])]
 }
 
@@ -139,13 +139,13 @@ fn barring(mut sheet: Sheet, pair: [u16; 2]) -> Sheet {
 }
 
 /// One way is barred and the other just suffices, or lacks a unit.
-fn barred_ways() -> Vec<Framed> {
+fn barred_ways() -> Vec<Written> {
     let road = |cheap, dear, pair| barring(ways([[1, cheap, 1], [2, dear, 4]]), pair);
     let (cheap, dear) = (([0, 1], Err(20)), ([0, 2], Err(20)));
-    let only_2 = Framed::planned("2 left", road(5, 5, [1, 1]), [18, EITHER], &[0, 2]);
-    let only_1 = Framed::planned("1 left", road(5, 5, [1, 2]), [8, EITHER + 1], &[0, 1]);
-    let short_2 = Framed::refused("2 left, short", road(5, 4, [1, 1]), EITHER, &[0, 2]);
-    let short_1 = Framed::refused("1 left, short", road(4, 5, [1, 2]), EITHER, &[0, 1]);
+    let only_2 = Written::planned("2 left", road(5, 5, [1, 1]), [18, EITHER], &[0, 2]);
+    let only_1 = Written::planned("1 left", road(5, 5, [1, 2]), [8, EITHER + 1], &[0, 1]);
+    let short_2 = Written::refused("2 left, short", road(5, 4, [1, 1]), EITHER, &[0, 2]);
+    let short_1 = Written::refused("1 left, short", road(4, 5, [1, 2]), EITHER, &[0, 1]);
     vec![
         only_2.checked(&[cheap]),
         only_1.checked(&[dear]),
@@ -155,10 +155,10 @@ fn barred_ways() -> Vec<Framed> {
 }
 
 /// 20 comes before 15, and 15 before 16, where a link lacks a unit each way.
-fn order() -> Vec<Framed> {
+fn order() -> Vec<Written> {
     let road = |pair| barring(line(&[[0, 1, 3], [1, 0, 3]], [4, 4]), pair);
-    let jammed = Framed::refused("16 after 15 and 20", road([0, 1]), 4 + 2 + 2, &[0, 1]);
-    let barred = Framed {
+    let jammed = Written::refused("16 after 15 and 20", road([0, 1]), 4 + 2 + 2, &[0, 1]);
+    let barred = Written {
         name: "15 and 20 before 16",
         sheet: road([0, 0]),
         answer: [12, 0, 4 + 2],

@@ -5,11 +5,9 @@ mod passed;
 mod places;
 mod sets;
 
-pub use crate::written::Written as Jointed;
-
 use crate::limits::{AMOUNT, NO_PARENT};
 use crate::sheet::{Cabinet, Pair, Sheet};
-use crate::written::streams;
+use crate::written::{Written, streams};
 
 /// A road of these services, cabinets and streams; the root comes first.
 fn road(services: &[u16], cabinets: &[[u16; 7]], words: &[[u16; 3]]) -> Sheet {
@@ -50,7 +48,7 @@ fn barring(mut sheet: Sheet, pairs: &[[u16; 2]]) -> Sheet {
 }
 
 /// All of them.
-pub fn all() -> Vec<Jointed> {
+pub fn all() -> Vec<Written> {
     let mut all = places::all();
     all.extend(passed::all());
     all.extend(sets::all());

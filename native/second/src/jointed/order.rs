@@ -1,11 +1,11 @@
 //! Plans with a service on a joint and another fault: 13, 14 and 20 come before 15, and 15 before 16.
 
-use super::{Jointed, barring, road};
+use super::{Written, barring, road};
 use crate::limits::NO_PARENT;
 use crate::sheet::Sheet;
 
 /// All of them.
-pub fn all() -> Vec<Jointed> {
+pub fn all() -> Vec<Written> {
     vec![
         alone(),
         before_16(),
@@ -29,8 +29,8 @@ fn fork(capacity: u16) -> Sheet {
 
 /// The link just suffices, so that 15 is for the joint alone. Before 2 no service, either, and both
 /// can be placed on 1.
-fn alone() -> Jointed {
-    let road = Jointed::planned("15 for a joint alone", fork(5), [3, 4 + 9], &[1, 1]);
+fn alone() -> Written {
+    let road = Written::planned("15 for a joint alone", fork(5), [3, 4 + 9], &[1, 1]);
     road.checked(&[
         ([2, 1], Ok(9)),
         ([0, 1], Err(15)),
@@ -46,8 +46,8 @@ fn alone() -> Jointed {
 }
 
 /// It lacks a unit. Before 2 no service and both can be placed on 1, but neither alone.
-fn before_16() -> Jointed {
-    let road = Jointed::planned("15 for a joint before 16", fork(4), [3, 4 + 5], &[1, 1]);
+fn before_16() -> Written {
+    let road = Written::planned("15 for a joint before 16", fork(4), [3, 4 + 5], &[1, 1]);
     road.checked(&[
         ([2, 1], Err(16)),
         ([0, 1], Err(15)),
@@ -59,7 +59,7 @@ fn before_16() -> Jointed {
 
 /// The joint is the last cabinet, under one that holds both services; its link carries nothing, so
 /// that 16 applies with 15. Service 1 is barred from the joint, and 20 comes before both.
-fn under_it() -> Jointed {
+fn under_it() -> Written {
     let cabinets = [
         [NO_PARENT, 0, 0, 0, 0, 0, 0],
         [0, 2, 1, 9, 1, 9, 1],
@@ -67,7 +67,7 @@ fn under_it() -> Jointed {
     ];
     let sheet = barring(road(&[2, 0], &cabinets, &[[0, 1, 1]]), &[[0, 2]]);
     // Before 1 there is the joint at the root, and before 2 cabinet 1, which holds any set.
-    let road = Jointed::planned("a joint under the others", sheet, [2, 4 + 9], &[1, 1]);
+    let road = Written::planned("a joint under the others", sheet, [2, 4 + 9], &[1, 1]);
     road.checked(&[
         ([1, 2], Err(15)),
         ([1, 0], Err(15)),
@@ -78,10 +78,10 @@ fn under_it() -> Jointed {
 }
 
 /// A cabinet is overfull, a service is on a joint, or both: 15 each time.
-fn overfull_too() -> Jointed {
+fn overfull_too() -> Written {
     let cabinets = [[NO_PARENT, 0, 1, 0, 0, 0, 0], [0, 2, 1, 0, 0, 0, 0]];
     let sheet = road(&[0, 3], &cabinets, &[]);
-    let road = Jointed::without_plan("overfull, and on a joint", sheet, 4);
+    let road = Written::without_plan("overfull, and on a joint", sheet, 4);
     road.checked(&[
         ([1, 1], Err(15)),
         ([0, 1], Err(15)),
@@ -93,12 +93,12 @@ fn overfull_too() -> Jointed {
 /// Three services of demand 0 on two cabinets under a joint, whose links carry no stream of demand
 /// above 0; a stream of 1 joins the first two, which are together then, and one of 0 the last two.
 /// Before 2 no service, the first two, the last, and all three can be placed on 1.
-fn idle_before_16() -> Jointed {
+fn idle_before_16() -> Written {
     let leaf = [0, 1, 4, 2, 1, 2, 1];
     let cabinets = [[NO_PARENT, 0, 0, 0, 0, 0, 0], leaf, leaf];
     let sheet = road(&[0, 0, 0], &cabinets, &[[0, 1, 1], [1, 2, 0]]);
     let counts = 8 + (8 + 2 + 4 + 1);
-    let road = Jointed::planned("idle on a joint before 16", sheet, [0, counts], &[1, 1, 1]);
+    let road = Written::planned("idle on a joint before 16", sheet, [0, counts], &[1, 1, 1]);
     road.checked(&[
         ([1, 1, 2], Ok(0)),
         ([2, 2, 1], Ok(0)),
