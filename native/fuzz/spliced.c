@@ -9,7 +9,7 @@
 #include "joints.h"
 #include "layout.h"
 
-enum { CAPACITY = 1, PRICE = 2 };
+enum { PARENT = 0, CAPACITY = 1, PRICE = 2 };
 
 /* Which services are barred from each cabinet, a bit a service. */
 struct bans {
@@ -56,7 +56,7 @@ int of_capacity_one(const uint8_t *sheet, size_t cabinet)
 int under_joint(const uint8_t *sheet, size_t cabinet)
 {
     while (cabinet > 0 && !is_joint(sheet, cabinet))
-        cabinet = field_at(sheet, CABINETS, cabinet, 0);
+        cabinet = field_at(sheet, CABINETS, cabinet, PARENT);
     return is_joint(sheet, cabinet);
 }
 
