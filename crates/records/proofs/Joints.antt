@@ -17,11 +17,11 @@ use Rattle.sheet.specs.declared.Reading.the-variants.{Accepted}
 use Rattle.sheet.proofs.Promises.{well-formed, joints-by-capacity}
 use Rattle.records.specs.declared.Records.{Records}
 use Rattle.records.specs.Inner.Loading.{Loading, Jointed}
-use Rattle.records.specs.Told.{told}
+use Rattle.records.specs.Told.{max-marks, told}
 
 -- no cabinet was seen yet
-pub none-jointed : (capacity : List ℕ) → Jointed capacity 0 (replicate max-cabinets false)
-none-jointed capacity = record { size = length-replicate {A = Bool} max-cabinets false; marked = λ c l. absurd (omega arith) }
+pub none-jointed : (capacity : List ℕ) → Jointed capacity 0 (replicate max-marks false)
+none-jointed capacity = record { size = length-replicate {A = Bool} max-marks false; marked = λ c l. absurd (omega arith) }
 
 -- one cabinet more
 pub next-jointed : (capacity : List ℕ) (n : ℕ) (marks : List Bool) (b : Bool) → n < max-cabinets → b ≡ eqb (getD capacity n 0) 0

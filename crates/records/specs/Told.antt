@@ -33,6 +33,10 @@ told k =
     (λ i c. has (getD (k .barred) c 0) i)
     (λ c. getD (k .joint) c false)
 
+-- how many places for marks of cabinets there are
+abbrev pub max-marks : ℕ
+max-marks = 256
+
 -- so many services, cabinets and streams, with nothing but zeros in their records, and no joint
 abbrev pub blank : ℕ → ℕ → ℕ → Records
 blank r s q =
@@ -49,7 +53,7 @@ blank r s q =
       «down_capacity» = replicate max-cabinets 0;
       «down_price» = replicate max-cabinets 0;
       barred = replicate max-cabinets 0;
-      joint = replicate max-cabinets false;
+      joint = replicate max-marks false;
       from = replicate max-streams 0;
       to = replicate max-streams 0;
       load = replicate max-streams 0;

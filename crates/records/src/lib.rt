@@ -22,6 +22,10 @@ mod loading; // loading.rt: the records of an accepted sheet, read into arrays
 use loading::blank_records;
 use loading::load_accepted;
 
+// Places for marks of cabinets. There are more than cabinets, so that the records take more than 4,096 bytes: the planner copies them once for each row
+// from one place to the next, and some processors are slow at that where the places lie a little less than 4,096 bytes apart.
+pub const MARKS: usize = 256;
+
 // The records of a road and of a request; fields past the counts mean nothing. The services barred from a cabinet are a set: service i is
 // barred where digit i of the number is 1. Whether a cabinet is a joint stands apart from its capacity.
 pub struct Records {
@@ -37,7 +41,7 @@ pub struct Records {
     pub down_capacity: [u16; Sheet::MAX_CABINETS],
     pub down_price: [u16; Sheet::MAX_CABINETS],
     pub barred: [u16; Sheet::MAX_CABINETS],
-    pub joint: [bool; Sheet::MAX_CABINETS],
+    pub joint: [bool; MARKS],
     pub from: [u16; Sheet::MAX_STREAMS],
     pub to: [u16; Sheet::MAX_STREAMS],
     pub load: [u16; Sheet::MAX_STREAMS],

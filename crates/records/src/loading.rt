@@ -11,6 +11,7 @@ ghost use Rattle.sheet.specs.declared.PairRecord.the-variants.{Given};
 ghost use Rattle.sheet.specs.Inner.Fields.{service-of, cabinet-of, stream-of};
 ghost use Rattle.records.specs.Told.{told, blank};
 ghost use Rattle.records.specs.Inner.Loading.{Loading, Barring, Jointed};
+use crate::MARKS;
 use crate::Records;
 use sheet::Cabinet;
 use sheet::CabinetRecord;
@@ -114,7 +115,7 @@ pub(crate) fn blank_records(services: usize, cabinets: usize, streams: usize) ->
         down_capacity: [0u16; Sheet::MAX_CABINETS],
         down_price: [0u16; Sheet::MAX_CABINETS],
         barred: [0u16; Sheet::MAX_CABINETS],
-        joint: [false; Sheet::MAX_CABINETS],
+        joint: [false; MARKS],
         from: [0u16; Sheet::MAX_STREAMS],
         to: [0u16; Sheet::MAX_STREAMS],
         load: [0u16; Sheet::MAX_STREAMS],
@@ -200,10 +201,10 @@ fn barred_sets(sheet: Sheet, bytes: &[u8]) -> [u16; Sheet::MAX_CABINETS]
 }
 
 // Which cabinets are joints: those of capacity 0.
-fn joints(capacity: &[u16; Sheet::MAX_CABINETS]) -> [bool; Sheet::MAX_CABINETS]
+fn joints(capacity: &[u16; Sheet::MAX_CABINETS]) -> [bool; MARKS]
     ensures { λ marks. ⌜ Jointed (now (capacity .entry)) max-cabinets marks ⌝ }
 {
-    let mut marks = [false; Sheet::MAX_CABINETS];
+    let mut marks = [false; MARKS];
     let mut c = 0;
     while c < Sheet::MAX_CABINETS {
         marks[c] = capacity[c] == 0;

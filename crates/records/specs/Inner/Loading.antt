@@ -12,6 +12,7 @@ use Rattle.sheet.specs.Instance.{Instance}
 use Rattle.sheet.specs.Records.{pair-record, bars}
 use Rattle.sheet.specs.declared.Sheet.{Sheet}
 use Rattle.records.specs.declared.Records.{Records}
+use Rattle.records.specs.Told.{max-marks}
 
 -- the first n places of an array hold f
 pub record Column (places n : ℕ) (f : ℕ → ℕ) (l : List ℕ) : Type 0 where
@@ -64,5 +65,5 @@ pub record Barring (h : Sheet) (bytes : List ℕ) (n : ℕ) (sets : List ℕ) : 
 
 -- the marks of the joints once n cabinets were seen: a joint has capacity 0
 pub record Jointed (capacity : List ℕ) (n : ℕ) (marks : List Bool) : Type 0 where
-  pub size : length marks ≡ max-cabinets
+  pub size : length marks ≡ max-marks
   pub marked : (c : ℕ) → c < n → getD marks c false ≡ eqb (getD capacity c 0) 0
