@@ -1,5 +1,7 @@
 // Prints what the check answers on the measured roads, on sums above 65,535, on long roads, a chain and a star of 200 cabinets with 100 streams, with
 // barred pairs, and where framing fills a link.
+#![tactic(auto)]
+
 ghost use Rattle.std.specs.Prelude.{◌≡◌, ◌+◌, ◌<◌, length};
 
 mod bars; // bars.rt: road M with barred pairs

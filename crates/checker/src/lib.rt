@@ -1,4 +1,6 @@
 // The check of a plan against a sheet: any bytes and any plan get the plan's cost, or one refusal. And the load of one link.
+#![tactic(auto)]
+
 ghost use Rattle.std.specs.Prelude.{◌≡◌};
 ghost use Rattle.checker.specs.Check.{checked};
 
@@ -12,7 +14,7 @@ use links::walk_links;
 use sheet::{Reading, Refusal};
 
 // What the check answers: the plan's cost, or a refusal.
-#[derive(Drop)]
+#[derive(Clone, Copy)]
 pub enum Checked {
     Accepted(u64),
     Refused(Refusal),

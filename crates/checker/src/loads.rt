@@ -15,7 +15,7 @@ use records::{Records, field, is_marked};
 use sheet::Sheet;
 
 // The load of each direction of a link.
-#[derive(Drop)]
+#[derive(Clone, Copy)]
 pub struct Loads {
     pub up: u64,
     pub down: u64,

@@ -1,4 +1,5 @@
 // Reads a planning sheet from standard input and prints its counts and records, or the refusal.
+#![tactic(auto)]
 
 // The most bytes that are taken as a sheet.
 const LONGEST: usize = 4096;

@@ -1,5 +1,7 @@
 // One cabinet changed: tables kept of a sheet are made those of the changed sheet, from the changed cabinet up to the root, and the plan that they then
 // tell of is checked before it is handed out.
+#![tactic(auto)]
+
 ghost use Rattle.std.specs.Prelude.{◌≡◌, ◌^◌, ◌≤◌, length};
 ghost use Rattle.sheet.specs.Limits.{max_services};
 ghost use Rattle.checker.specs.Check.{checked};
@@ -9,11 +11,11 @@ ghost use Rattle.edit.specs.Edits.{Edits};
 ghost use Rattle.edit.specs.Inner.Parts.{Loaded, Parted, Reworks, accepted_at, handed, output_of};
 
 use checker::Checked;
-use core::Kept;
 use lending::{Measured, Span};
 use planner::Planned;
 use records::Records;
 use sheet::{Reading, Refusal, Sheet};
+use solver::Kept;
 
 // How many sets of r services there are.
 fn sets_of(r: usize) -> usize
@@ -77,7 +79,7 @@ fn rework(
 {
     let mut plan = [0u16; Sheet::MAX_SERVICES];
     let r = records.services;
-    let kept = core::update(records, cabinet, &mut plan[..r], costs, choices);
+    let kept = solver::update(records, cabinet, &mut plan[..r], costs, choices);
     match kept {
         Kept::Plan { cost, count } => hand_out(sheet, &plan[..r], cost, count, output),
         Kept::NoPlan { count } => Planned::Refused(Refusal::Road(12), count),

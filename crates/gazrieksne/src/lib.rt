@@ -1,4 +1,6 @@
 // The C entry points: thin functions over the library's calls. native/include/gazrieksne.h documents them.
+#![tactic(auto)]
+
 mod bills; // bills.rt: gz_bill
 mod checks; // checks.rt: gz_check
 mod copies; // copies.rt: gz_tidy

@@ -5,7 +5,7 @@ ghost use Rattle.lending.specs.Spans.{span_of};
 ghost use Rattle.planner.specs.Answers.{number as plan_number};
 ghost use Rattle.planner.specs.Lent.{front_after, table_after, OutputAfter};
 ghost use Rattle.planner.specs.Kept.{kept_costs, kept_choices};
-ghost use Rattle.planner.specs.Bounds.{split_bound, number as bound-number};
+ghost use Rattle.planner.specs.Bounds.{split_bound, number as bound_number};
 ghost use Rattle.gazrieksne.specs.Plans.{whole_of, answer_with, plan_answer, bound_answer};
 
 use crate::reads::wide;
@@ -122,7 +122,7 @@ pub extern "C" fn gz_keep_span(
 // The refusal's number, 0 for none; group and bound are written.
 #[unsafe(no_mangle)]
 pub extern "C" fn gz_bound(services: usize, cabinets: usize, answer: &mut [u64; 2]) -> u64
-    ensures refusal { result ≡ bound-number (split_bound services cabinets) }
+    ensures refusal { result ≡ bound_number (split_bound services cabinets) }
     ensures answer { answer.new ≡ bound_answer (split_bound services cabinets) }
 {
     match planner::bound(services, cabinets) {

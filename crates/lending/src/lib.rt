@@ -1,4 +1,6 @@
 // The memory that is lent to a call that plans: the span of both tables that it may use, and whether that and the output are enough.
+#![tactic(auto)]
+
 ghost use Rattle.std.specs.Prelude.{◌≡◌};
 ghost use Rattle.sheet.specs.Refusals.{first_applying};
 ghost use Rattle.lending.specs.Spans.{whole, runs_past};
@@ -7,7 +9,7 @@ ghost use Rattle.lending.specs.Rules.{lender_rules, room};
 use sheet::Refusal;
 
 // The entries that a call may use, the same of both tables: so many, from the first on.
-#[derive(Drop)]
+#[derive(Clone, Copy)]
 pub struct Span {
     pub first: usize,
     pub number: usize,
@@ -44,7 +46,7 @@ impl Span {
 }
 
 // Whether the memory lent is enough, or the lender's refusal.
-#[derive(Drop)]
+#[derive(Clone, Copy)]
 pub enum Measured {
     Enough,
     Refused(Refusal),

@@ -1,4 +1,6 @@
 // The planner: the first of the cheapest plans of a sheet, with the count of the splits weighed for it, and the bound of that count.
+#![tactic(auto)]
+
 ghost use Rattle.std.specs.Prelude.{◌≡◌, ◌^◌, ◌≤◌, length};
 ghost use Rattle.sheet.specs.Instance.{WellFormed, instance};
 ghost use Rattle.sheet.specs.Limits.{max_services};
@@ -14,20 +16,20 @@ ghost use Rattle.planner.specs.Inner.Decided.{planned_of};
 ghost use Rattle.planner.specs.Inner.Fronts.{front_of};
 ghost use Rattle.records.specs.Told.{told};
 
-use core::Kept;
 use lending::{Measured, Span};
 use records::Records;
 use sheet::{Reading, Refusal, Sheet};
+use solver::Kept;
 
 // What the planner answers: a plan's cost, or who can cause the refusal and its number; and the count of the splits weighed.
-#[derive(Drop)]
+#[derive(Clone, Copy)]
 pub enum Planned {
     Plan { cost: u64, count: u64 },
     Refused(Refusal, u64),
 }
 
 // At most so many splits are weighed.
-#[derive(Drop)]
+#[derive(Clone, Copy)]
 pub enum SplitBound {
     AtMost(u64),
     Refused(Refusal),
@@ -72,9 +74,9 @@ fn solve(
     ensures choices { choices.new ≡ front_of (told records) keeps (kept_choices (told records)) }
 {
     if keeps {
-        answer_of(core::keep(records, output, costs, choices))
+        answer_of(solver::keep(records, output, costs, choices))
     } else {
-        answer_of(core::solve(records, output, costs, choices))
+        answer_of(solver::solve(records, output, costs, choices))
     }
 }
 

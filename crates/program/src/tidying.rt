@@ -1,21 +1,21 @@
 // The program that tidies: a sheet comes from standard input, and its tidy copy goes to standard output.
-use libc::{STDERR_FILENO, STDIN_FILENO, STDOUT_FILENO};
+use crate::{STDERR, STDIN, STDOUT};
 use tidy::Written;
 
 // Says on standard error what is refused.
 fn refuse(number: u16) {
     let mut text = [0u8; report::TEXT];
     let n = report::refuse(number, &mut text);
-    io::write_all(STDERR_FILENO, &text[..n]);
+    io::write_all(STDERR, &text[..n]);
 }
 
 // Writes the copy, and says whether all of it was written. If it was not, a line on standard error says so too.
 fn give(copy: &[u8]) -> bool {
-    if io::write_all(STDOUT_FILENO, copy) {
+    if io::write_all(STDOUT, copy) {
         return true;
     }
     io::write_all(
-        STDERR_FILENO,
+        STDERR,
         b"tidy: standard output could not be written\n",
     );
     false
@@ -25,7 +25,7 @@ fn give(copy: &[u8]) -> bool {
 pub fn run() -> bool {
     let mut bytes = io::large_buffer();
     let mut copy = [0u8; tidy::LONGEST];
-    let read = io::read_full(STDIN_FILENO, &mut bytes);
+    let read = io::read_full(STDIN, &mut bytes);
     match tidy::tidy(&bytes[..read], &mut copy) {
         Written::Bytes(n) => give(&copy[..n]),
         Written::Refused(refusal) => {
@@ -33,10 +33,4 @@ pub fn run() -> bool {
             false
         }
     }
-}
-
-// The program's exit status: 0 if a copy was written, else 1.
-#[unsafe(no_mangle)]
-pub extern "C" fn gz_tidy_program() -> i32 {
-    if run() { 0 } else { 1 }
 }

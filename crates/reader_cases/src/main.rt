@@ -1,4 +1,5 @@
 // Runs the reader on sheets made from road M and prints the refusal of each, 0 for an accepted sheet.
+#![tactic(auto)]
 
 mod pairs; // pairs.rt: sheets with a fourth block
 

@@ -6,7 +6,7 @@ ghost use Rattle.records.specs.Flows.{frames_in, load_of};
 const FRAME: u64 = 2;
 
 // The demand of some streams, and how many frames they have.
-#[derive(Drop)]
+#[derive(Clone, Copy)]
 pub struct Flow {
     pub demand: u32,
     pub frames: u32,

@@ -1,4 +1,6 @@
 // The records of a sheet in arrays of 16-bit numbers, for check and planner alike.
+#![tactic(auto)]
+
 ghost use Rattle.std.specs.Prelude.{◌≡◌, false, ltb, get_or};
 ghost use Rattle.finite.specs.Below.{only};
 ghost use Rattle.subsets.specs.Sets.{has};
@@ -20,7 +22,7 @@ pub const MARKS: usize = 256;
 
 // The records of a road and of a request; fields past the counts mean nothing. The services barred from a cabinet are a set: service i is
 // barred where digit i of the number is 1. Whether a cabinet is a joint stands apart from its capacity.
-#[derive(Drop)]
+#[derive(Clone, Copy)]
 pub struct Records {
     pub services: usize,
     pub cabinets: usize,
@@ -41,7 +43,7 @@ pub struct Records {
 }
 
 // What the reader answers, with the records of an accepted sheet; with a refusal there are none.
-#[derive(Drop)]
+#[derive(Clone, Copy)]
 pub struct Loaded {
     pub answer: Reading,
     pub records: Records,

@@ -1,4 +1,6 @@
 // The program's text: the planner's answer to a sheet, or the refusal of too many bytes.
+#![tactic(auto)]
+
 ghost use Rattle.std.specs.Prelude.{◌≡◌, ◌≤◌, length, take};
 ghost use Rattle.io.specs.Counts.{IsPrefixLen};
 ghost use Rattle.report.specs.Inner.Room.{room};

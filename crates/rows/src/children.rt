@@ -8,7 +8,7 @@ use sheet::Sheet;
 
 // Each cabinet's last child, and the sibling before each cabinet; 0 where there is none. `is_tree` says that every parent has a smaller number
 // than its child; where it is not so, nothing is said of the lists.
-#[derive(Drop)]
+#[derive(Clone, Copy)]
 pub(crate) struct Children {
     pub(crate) last: [u16; Sheet::MAX_CABINETS],
     pub(crate) prior: [u16; Sheet::MAX_CABINETS],

@@ -1,4 +1,6 @@
 // The rows of the planner's two tables rebuilt: each its own charges, then its children joined. For any records and tables.
+#![tactic(auto)]
+
 ghost use Rattle.std.specs.Prelude.{◌≡◌, true, ◌+◌, ◌%◌, ◌^◌, ◌≤◌, ◌<◌};
 ghost use Rattle.sheet.specs.Limits.{max_services};
 ghost use Rattle.rows.specs.Keys.{tree};
@@ -40,7 +42,7 @@ pub const LOW_DIGITS: usize = Sheet::MAX_SERVICES / 2;
 const KEYS: usize = 4 * SETS;
 
 // What a cabinet itself lets in, and at what price; the services barred from it are a set. A joint lets none in.
-#[derive(Drop)]
+#[derive(Clone, Copy)]
 struct Own {
     capacity: u16,
     price: u16,
@@ -49,7 +51,7 @@ struct Own {
 }
 
 // What the link above a cabinet lets through each way, and at what price.
-#[derive(Drop)]
+#[derive(Clone, Copy)]
 struct Link {
     up_capacity: u16,
     up_price: u16,

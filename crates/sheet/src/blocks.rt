@@ -33,6 +33,7 @@ pub(crate) fn any_outside(sheet: Sheet, len: usize) -> bool
     x || y || z
 }
 
+#[tactic(auto, unfolding(crate::specs::Conditions::some_blocks_share))]
 pub(crate) fn any_share(sheet: Sheet) -> bool
     requires { Bounded sheet }
     ensures { result ≡ some_blocks_share sheet }
@@ -47,6 +48,7 @@ pub(crate) fn any_share(sheet: Sheet) -> bool
 }
 
 // The fourth block shares a byte with one of the others.
+#[tactic(auto, unfolding(crate::specs::Conditions::shared_by_pairs))]
 fn do_pairs_share(sheet: Sheet) -> bool
     requires { Bounded sheet }
     ensures { result ≡ shared_by_pairs sheet }
@@ -62,6 +64,7 @@ fn do_pairs_share(sheet: Sheet) -> bool
 }
 
 // Refusal 18.
+#[tactic(auto, unfolding(crate::specs::Conditions::pairs_block_wrong))]
 pub(crate) fn is_pairs_block_wrong(sheet: Sheet, len: usize) -> bool
     requires { Bounded sheet }
     ensures { result ≡ pairs_block_wrong sheet len }

@@ -8,6 +8,7 @@ ghost use Rattle.sheet.specs.Conditions.{beyond_limits, too_high, cabinet_too_hi
 use crate::records::{read_cabinet, read_pair, read_service, read_stream};
 use crate::{Cabinet, Pair, Sheet, Stream};
 
+#[tactic(auto, unfolding(crate::specs::Conditions::cabinet_too_high))]
 fn is_cabinet_too_high(k: Cabinet) -> bool
     ensures { result ≡ cabinet_too_high k }
 {
@@ -28,12 +29,14 @@ fn is_wrong_parent(c: usize, k: Cabinet) -> bool
     c <= k.parent
 }
 
+#[tactic(auto, unfolding(crate::specs::Conditions::wrong_ends))]
 fn are_wrong_ends(services: usize, t: Stream) -> bool
     ensures { result ≡ wrong_ends services t }
 {
     services <= t.from || services <= t.to || t.from == t.to
 }
 
+#[tactic(auto, unfolding(crate::specs::Conditions::linked))]
 fn is_linked(k: Cabinet) -> bool
     ensures { result ≡ linked k }
 {
@@ -133,6 +136,7 @@ fn any_pair_wrong(block: &[u8], services: usize, cabinets: usize, count: usize) 
 }
 
 // Refusal 2.
+#[tactic(auto, unfolding(crate::specs::Conditions::beyond_limits))]
 pub(crate) fn is_beyond_limits(sheet: Sheet) -> bool
     ensures { result ≡ beyond_limits sheet }
 {
@@ -143,6 +147,7 @@ pub(crate) fn is_beyond_limits(sheet: Sheet) -> bool
 }
 
 // Refusal 6. Each block is handed on as the part of the sheet that starts at its offset.
+#[tactic(auto, unfolding(crate::specs::Conditions::some_amount_too_high))]
 pub(crate) fn is_amount_too_high(bytes: &[u8], sheet: Sheet) -> bool
     requires { Inside sheet (length bytes.now) }
     ensures { result ≡ some_amount_too_high sheet bytes.now }

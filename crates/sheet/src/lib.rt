@@ -1,4 +1,6 @@
 // The reader of planning sheets: any bytes get the counts and records of a sheet, or one refusal.
+#![tactic(auto)]
+
 ghost use Rattle.std.specs.Prelude.{◌≡◌, ◌≤◌, length, drop};
 ghost use Rattle.sheet.specs.Inner.Within.{Bounded, Inside};
 ghost use Rattle.sheet.specs.Layout.{header_size, header};
@@ -18,7 +20,7 @@ use conditions::{
 use records::{is_there, read_cabinet, read_header, read_pair, read_service, read_stream, word};
 
 // Who can cause a refusal, with the refusal's number.
-#[derive(Drop)]
+#[derive(Clone, Copy)]
 pub enum Refusal {
     SheetWriter(u16),
     Lender(u16),
@@ -27,7 +29,7 @@ pub enum Refusal {
 }
 
 // An accepted sheet: what the record calls need to find a record in its bytes.
-#[derive(Drop)]
+#[derive(Clone, Copy)]
 pub struct Sheet {
     services: usize,
     cabinets: usize,
@@ -40,19 +42,19 @@ pub struct Sheet {
 }
 
 // What reading answers.
-#[derive(Drop)]
+#[derive(Clone, Copy)]
 pub enum Reading {
     Accepted(Sheet),
     Refused(Refusal),
 }
 
-#[derive(Drop)]
+#[derive(Clone, Copy)]
 pub struct Service {
     pub demand: u64,
 }
 
 // "Up" runs from the cabinet to its parent, "down" from the parent to it.
-#[derive(Drop)]
+#[derive(Clone, Copy)]
 pub struct Cabinet {
     pub parent: usize,
     pub capacity: u64,
@@ -64,7 +66,7 @@ pub struct Cabinet {
 }
 
 // From one service to another.
-#[derive(Drop)]
+#[derive(Clone, Copy)]
 pub struct Stream {
     pub from: usize,
     pub to: usize,
@@ -72,31 +74,31 @@ pub struct Stream {
 }
 
 // The service is barred from the cabinet.
-#[derive(Drop)]
+#[derive(Clone, Copy)]
 pub struct Pair {
     pub service: usize,
     pub cabinet: usize,
 }
 
-#[derive(Drop)]
+#[derive(Clone, Copy)]
 pub enum ServiceRecord {
     Given(Service),
     Missing,
 }
 
-#[derive(Drop)]
+#[derive(Clone, Copy)]
 pub enum CabinetRecord {
     Given(Cabinet),
     Missing,
 }
 
-#[derive(Drop)]
+#[derive(Clone, Copy)]
 pub enum StreamRecord {
     Given(Stream),
     Missing,
 }
 
-#[derive(Drop)]
+#[derive(Clone, Copy)]
 pub enum PairRecord {
     Given(Pair),
     Missing,

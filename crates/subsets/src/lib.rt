@@ -1,4 +1,6 @@
 // Weighing a split, settling ties, the powers of three, and sets of services as the binary digits of a number.
+#![tactic(auto)]
+
 ghost use Rattle.std.specs.Prelude.{◌≡◌, ◌-◌, min, if◌then◌else◌, bit_and};
 ghost use Rattle.finite.specs.Below.{only};
 ghost use Rattle.subsets.specs.Sets.{has};
@@ -14,14 +16,14 @@ pub const LIMIT: u64 = 1000000000000000;
 // The figure that stands for 'none' where no other is given.
 pub const NONE: u64 = 1000000000000001;
 
-#[derive(Drop)]
+#[derive(Clone, Copy)]
 pub struct Weighed {
     pub best: u64,
     pub counted: u64,
 }
 
 // The best split of a set among those seen: its cost, the subset that it places, and how many splits counted.
-#[derive(Drop)]
+#[derive(Clone, Copy)]
 pub struct Best {
     pub cost: u64,
     pub chosen: usize,
@@ -29,7 +31,7 @@ pub struct Best {
 }
 
 // The key of a placing, by which ties are settled: a number in two parts, its first digits and its others.
-#[derive(Drop)]
+#[derive(Clone, Copy)]
 pub struct Key {
     pub high: u64,
     pub low: u64,
@@ -95,7 +97,7 @@ pub fn comes_before(first: Key, second: Key) -> bool
 const LARGEST_TRIPLED: u64 = u64::MAX / 3;
 
 // A power of three, where it fits 64 bits.
-#[derive(Drop)]
+#[derive(Clone, Copy)]
 pub enum Power {
     Value(u64),
     Outside,

@@ -1,4 +1,6 @@
 // A tidy copy of a sheet: its records without gaps, and its barred pairs in rising order, each once.
+#![tactic(auto)]
+
 ghost use Rattle.std.specs.Prelude.{◌≡◌, ◌≤◌, length};
 ghost use Rattle.sheet.specs.Instance.{instance};
 ghost use Rattle.sheet.specs.Limits.{max_pairs};
@@ -21,7 +23,7 @@ use pairs::{count_pairs, put_fourth};
 use places::{cabinets_from, length_with, streams_end, streams_from};
 
 // What a call that writes a sheet answers: the length that it wrote, or who can cause the refusal and its number.
-#[derive(Drop)]
+#[derive(Clone, Copy)]
 pub enum Written {
     Bytes(usize),
     Refused(Refusal),

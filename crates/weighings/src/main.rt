@@ -1,5 +1,6 @@
 // Prints the weighing call on every combination of seven figures, and the powers of three: all that fit 64 bits, two past them, and that of
 // the largest number.
+#![tactic(auto)]
 
 // The figures tried: small costs, the numbers around 10^15, and large numbers.
 fn figure(i: usize) -> u64 {

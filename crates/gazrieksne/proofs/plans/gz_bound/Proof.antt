@@ -1,6 +1,6 @@
 -- `gz_bound` meets its contract: what the bound answers, as numbers.
 use mathlib.Core.Path.{sym, ap, ◌∙◌}
-use Rattle.planner.specs.Bounds.{number as bound-number}
+use Rattle.planner.specs.Bounds.{number as bound_number}
 use Rattle.gazrieksne.specs.Plans.{bound_answer}
 use borrow.Author.Rules.{rules}
 use Rattle.gazrieksne.proofs.plans.gz_bound.Statement.{statement}
@@ -27,12 +27,12 @@ wide-requires c κs = search rules
 returns : tie.Need-returns
 returns c =
     let e = sym c.before.before.before.before.bound.ensures ∙ c.before.before.n.given.1 in
-    (sym (ap bound-number e), sym (ap bound_answer e))
+    (sym (ap bound_number e), sym (ap bound_answer e))
 
 returns-2 : tie.Need-returns-2
 returns-2 c =
     let e = sym c.before.before.before.before.before.before.before.bound.ensures ∙ c.before.before.before.before.before.refusal.given.1 in (
-      c.wide.ensures ∙ c.before.number.ensures ∙ sym (ap bound-number e),
+      c.wide.ensures ∙ c.before.number.ensures ∙ sym (ap bound_number e),
       simp c.before.before.before.group.ensures (sym (ap bound_answer e)),
     )
 

@@ -1,0 +1,10 @@
+-- `stream` meets its contract.
+use Prim.Native.Nat.{◌-◌}
+use mathlib.Core.Path.{refl}
+use borrow.Author.Rules.{rules}
+use Rattle.records.specs.Told.{told}
+use Rattle.records.proofs.Records.stream.Goals as goal
+
+pub returns : goal.returns
+unfolding told
+returns c = rw (c.index.ensures, c.field.ensures, c.index2.ensures, c.field2.ensures, c.wide.ensures, c.field-3.ensures) refl
