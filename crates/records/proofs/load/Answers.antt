@@ -13,14 +13,13 @@ not_both h f e = absurd (let z : ◌≡◌ {A = ℕ} 0 1 = cc in omega arith)
 
 pub returns-in_default : goal.returns-in_default
 returns-in_default c =
-    let r = c.read-answer.ensures in
-    let e = sym r ∙ c.enum_told-1.given.1 in
-    (r, record { accepted = λ h q. not_both _ _ (sym q ∙ e); refused = λ f q. c.blank_records.ensures })
+    let e = sym c.in_default.ensures in
+    record { answer = c.read-answer.ensures; records = record { accepted = λ h q. not_both _ _ (sym q ∙ e); refused = λ f q. c.blank_records.ensures } }
 
 pub load_accepted-requires : goal.load_accepted-requires
-load_accepted-requires c = sym c.read-answer.ensures ∙ c.answer-1.given.1
+load_accepted-requires c = sym c.in-Accepted.ensures
 
 pub returns : goal.returns
 returns c =
-    let e = sym c.read-answer.ensures ∙ c.answer-1.given.1 in
-    (sym e, record { accepted = λ h q. c.load_accepted.ensures; refused = λ f q. not_both _ _ (sym e ∙ q) })
+    let e = sym c.in-Accepted.ensures in
+    record { answer = sym e; records = record { accepted = λ h q. c.load_accepted.ensures; refused = λ f q. not_both _ _ (sym e ∙ q) } }

@@ -7,4 +7,4 @@ use Rattle.records.proofs.Records.cabinet.Goals as goal
 
 pub returns : goal.returns
 unfolding told
-returns c = rw (c.index.ensures, c.field.ensures, c.wide.ensures, c.field2.ensures, c.wide2.ensures, c.field3.ensures, c.wide3.ensures, c.field4.ensures, c.wide4.ensures, c.field5.ensures, c.wide5.ensures, c.field6.ensures, c.wide-6.ensures, c.field-7.ensures) refl
+returns c = rw (c.index.ensures, c.field.ensures, c.wide.ensures, c.field-2.ensures, c.wide-2.ensures, c.field-3.ensures, c.wide-3.ensures, c.field-4.ensures, c.wide-4.ensures, c.field-5.ensures, c.wide-5.ensures, c.field-6.ensures, c.wide-6.ensures, c.field-7.ensures) refl

@@ -14,5 +14,5 @@ pub returns : goal.returns
 unfolding told
 returns c =
     let a = c.args in
-    let there : a.c < a.t1.cabinets = omega (arith, c.if1.false) in
-    rw (lt-ltb a.c a.t1.cabinets there) c.is_marked.ensures
+    let there : a.c < a.self.cabinets = omega (arith, c.if-self-c.false) in
+    rw (lt-ltb a.c a.self.cabinets there) c.is_marked.ensures

@@ -7,4 +7,4 @@ use Rattle.records.proofs.Records.stream.Goals as goal
 
 pub returns : goal.returns
 unfolding told
-returns c = rw (c.index.ensures, c.field.ensures, c.index2.ensures, c.field2.ensures, c.wide.ensures, c.field-3.ensures) refl
+returns c = rw (c.index.ensures, c.field.ensures, c.index-2.ensures, c.field-2.ensures, c.wide.ensures, c.field-3.ensures) refl

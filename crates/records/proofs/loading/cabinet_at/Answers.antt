@@ -7,8 +7,8 @@ use Rattle.records.proofs.loading.cabinet_at.Goals as goal
 
 pub returns-in_default : goal.returns-in_default
 returns-in_default c =
-    absurd (cabinet_there _ (sym c.enum_told-1.given.1 ∙ c.cabinet-record.ensures ∙ cabinet_given c.args.bytes.now c.args.sheet c.requires.0 c.args.c c.requires.1))
+    absurd (cabinet_there _ (c.in_default.ensures ∙ cabinet_given c.args.bytes.now c.args.sheet c.requires.0 c.args.c c.requires.1))
 
 pub returns : goal.returns
 returns c =
-    same_cabinet _ _ (sym c.record-1.given.1 ∙ c.cabinet-record.ensures ∙ cabinet_given c.args.bytes.now c.args.sheet c.requires.0 c.args.c c.requires.1)
+    same_cabinet _ _ (c.in-Given.ensures ∙ cabinet_given c.args.bytes.now c.args.sheet c.requires.0 c.args.c c.requires.1)

@@ -7,8 +7,8 @@ use Rattle.records.proofs.loading.service_at.Goals as goal
 
 pub returns-in_default : goal.returns-in_default
 returns-in_default c =
-    absurd (service_there _ (sym c.enum_told-1.given.1 ∙ c.service-record.ensures ∙ service_given c.args.bytes.now c.args.sheet c.requires.0 c.args.i c.requires.1))
+    absurd (service_there _ (c.in_default.ensures ∙ service_given c.args.bytes.now c.args.sheet c.requires.0 c.args.i c.requires.1))
 
 pub returns : goal.returns
 returns c =
-    same_service _ _ (sym c.record-1.given.1 ∙ c.service-record.ensures ∙ service_given c.args.bytes.now c.args.sheet c.requires.0 c.args.i c.requires.1)
+    same_service _ _ (c.in-Given.ensures ∙ service_given c.args.bytes.now c.args.sheet c.requires.0 c.args.i c.requires.1)

@@ -7,8 +7,8 @@ use Rattle.records.proofs.loading.stream_at.Goals as goal
 
 pub returns-in_default : goal.returns-in_default
 returns-in_default c =
-    absurd (stream_there _ (sym c.enum_told-1.given.1 ∙ c.stream-record.ensures ∙ stream_given c.args.bytes.now c.args.sheet c.requires.0 c.args.j c.requires.1))
+    absurd (stream_there _ (c.in_default.ensures ∙ stream_given c.args.bytes.now c.args.sheet c.requires.0 c.args.j c.requires.1))
 
 pub returns : goal.returns
 returns c =
-    same_stream _ _ (sym c.record-1.given.1 ∙ c.stream-record.ensures ∙ stream_given c.args.bytes.now c.args.sheet c.requires.0 c.args.j c.requires.1)
+    same_stream _ _ (c.in-Given.ensures ∙ stream_given c.args.bytes.now c.args.sheet c.requires.0 c.args.j c.requires.1)
