@@ -1,5 +1,5 @@
 -- `are_bars_kept` meets its contract. The invariant: no service passed is barred from its cabinet.
-use Prim.Native.Nat.{ℕ, ◌-◌, ◌≤◌}
+use Prim.Native.Nat.{◌-◌, ◌≤◌}
 use mathlib.Core.Path.{◌≡◌}
 use mathlib.Core.Bool.{true, not}
 use Rattle.finite.specs.Below.{all_below}

@@ -1,7 +1,6 @@
 -- `are_cabinets_kept` meets its contract: the room of all cabinets is tested, then the joints.
 use mathlib.Core.Path.{sym, ap, ◌∙◌}
 use mathlib.Core.Bool.{Bool, ◌&&◌}
-use borrow.Author.Rules.{rules}
 use Rattle.records.specs.Told.{told}
 use Rattle.embedding.specs.Plan.{place, joints_keep, cabinets_keep}
 use Rattle.checker.proofs.cabinets.are_cabinets_kept.Goals as goal

@@ -1,13 +1,10 @@
 -- `is_in_range` meets its contract. The invariant: the places passed are all in range.
-use Prim.Native.Nat.{◌-◌, ◌≤◌, ◌<◌}
+use Prim.Native.Nat.{◌≤◌, ◌<◌}
 use native.Mathlib.Omega.{arith}
-use mathlib.Core.Path.{◌≡◌}
 use borrow.Author.Rules.{rules}
 use lib.ListN.{length}
-use mathlib.Core.Bool.{true}
 use lib.Dec.{ltb}
 use borrow.Author.Tests.{lt-ltb, le-ltb}
-use Rattle.finite.specs.Below.{all_below}
 use Rattle.finite.proofs.Tests.{all_start, all_next, all_end, all_stop}
 use Rattle.embedding.specs.Plan.{place}
 use Rattle.checker.proofs.cabinets.is_in_range.Goals as goal

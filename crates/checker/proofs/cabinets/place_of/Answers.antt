@@ -1,6 +1,5 @@
 -- `place_of` meets its contract: past the end of a plan the definition gives 0 too.
 use mathlib.Core.Path.{sym}
-use borrow.Author.Rules.{rules}
 use lib.ListN.{get_or-eq_default}
 use Rattle.checker.proofs.cabinets.place_of.Goals as goal
 

@@ -1,5 +1,5 @@
 -- `walk_links` meets its contract: a link that is overfull decides, and else one more is passed, and its cost is added.
-use Prim.Native.Nat.{ℕ, ◌+◌, ◌*◌, ◌≤◌, ◌<◌}
+use Prim.Native.Nat.{ℕ, ◌+◌, ◌*◌, ◌≤◌}
 use native.Mathlib.Omega.{arith}
 use mathlib.Core.Path.{◌≡◌, sym, ap, ap₂, ◌∙◌, subst}
 use mathlib.Core.Bool.{Bool, ◌||◌}
@@ -56,12 +56,6 @@ loop-j-init c =
     walking.enter I π p.well_formed p.range c.walk.c c.walk.cost c.cabinet-link.result c.mark_under-marks.result c.walk.invariant
     (omega (arith, c.if-cabinets-c.false, (counts c.args.records).1)) c.cabinet-link.ensures c.mark_under-marks.ensures
 
-pub slice_bounds-leaves-end : goal.slice_bounds-leaves-end
-slice_bounds-leaves-end c = sym c.loop-j.invariant.marked.size
-
-pub slice_bounds-leaves-end-in-loop-j : goal.slice_bounds-leaves-end-in-loop-j
-slice_bounds-leaves-end-in-loop-j c = sym c.loop-j.invariant.marked.size
-
 pub with_stream-up-requires : goal.with_stream-up-requires
 with_stream-up-requires c =
     let p = c.requires.0 in
@@ -76,9 +70,6 @@ with_stream-down-requires c =
 
 pub overflow_add-j : goal.overflow_add-j
 overflow_add-j c = omega (arith, c.loop-j-test.true, (counts c.args.records).2, c.requires.0.well_formed.streams)
-
-pub loop-j-smaller : goal.loop-j-smaller
-loop-j-smaller c = omega (arith, c.loop-j-test.true)
 
 pub loop-j-preserved : goal.loop-j-preserved
 loop-j-preserved c =
@@ -96,12 +87,6 @@ loop-j-preserved c =
     (down_now I π l.invariant from_is to_is demand_is _ _ c.leaves-in-loop-j.ensures c.with_stream-down.ensures)
     (tested c.cabinet-link.result _ _ _ _ _ c.load.ensures c.load-in-loop-j.ensures c.is_overfull.ensures)
     c.if-is_overfull.false
-
-pub overflow_mul-cost : goal.overflow_mul-cost
-overflow_mul-cost c =
-    let p = c.requires.0 in
-    let up_cost = priced _ _ _ _ c.to_u64.ensures.0 (walking.up_toll (told c.args.records) (place c.args.plan.now) p.well_formed p.range c.loop-j.invariant) in
-    omega arith
 
 pub overflow_mul-cost-in-walk : goal.overflow_mul-cost-in-walk
 overflow_mul-cost-in-walk c =
@@ -124,9 +109,6 @@ overflow_add-cost-in-walk c =
     let up_cost = priced _ _ _ _ c.to_u64.ensures.0 (walking.up_toll I π p.well_formed p.range c.loop-j.invariant) in
     let down_cost = priced _ _ _ _ c.to_u64-in-walk.ensures.0 (walking.down_toll I π p.well_formed p.range c.loop-j.invariant) in
     omega (arith, walking.cost_low I π p.well_formed p.range c.walk.c c.walk.cost c.walk.invariant)
-
-pub overflow_add-c : goal.overflow_add-c
-overflow_add-c c = omega (arith, c.loop-j.invariant.more, c.requires.0.well_formed.cabinets)
 
 pub walk-smaller : goal.walk-smaller
 walk-smaller c = omega (arith, c.loop-j.invariant.more, (counts c.args.records).1)

@@ -1,7 +1,6 @@
 -- `leaves` meets its contract, by what its two calls found.
-use Prim.Native.Nat.{ℕ, ◌-◌}
+use Prim.Native.Nat.{ℕ}
 use mathlib.Core.Path.{ap, ap₂, ◌∙◌}
-use borrow.Author.Rules.{rules}
 use lib.ListN.{get_or}
 use mathlib.Core.Bool.{Bool, false, ◌&&◌, not}
 use Rattle.checker.proofs.loads.leaves.Goals as goal

@@ -10,12 +10,6 @@ use Rattle.checker.proofs.Told.{counts, parent_at, parent_past}
 use Rattle.checker.proofs.Marks.{marks_start, marks_next, marks_end}
 use Rattle.checker.proofs.loads.mark_under.Goals as goal
 
-pub bounds-marks-c : goal.bounds-marks-c
-bounds-marks-c c = omega (arith, c.requires.1, c.requires.2)
-
-pub overflow_add-d : goal.overflow_add-d
-overflow_add-d c = omega (arith, c.requires.1, c.requires.2)
-
 pub loop-d-init : goal.loop-d-init
 loop-d-init c =
     let a = c.args in
@@ -27,9 +21,6 @@ bounds-marks-d c = omega (arith, c.loop-d-test.true, (counts c.args.records).1, 
 
 pub overflow_add-d-in-loop-d : goal.overflow_add-d-in-loop-d
 overflow_add-d-in-loop-d c = omega (arith, c.loop-d-test.true, (counts c.args.records).1, c.requires.2)
-
-pub loop-d-smaller : goal.loop-d-smaller
-loop-d-smaller c = omega (arith, c.loop-d-test.true)
 
 pub loop-d-preserved : goal.loop-d-preserved
 loop-d-preserved c =

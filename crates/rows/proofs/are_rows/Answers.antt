@@ -1,0 +1,46 @@
+-- `are_rows` meets its contract.
+use Prim.Native.Nat.{ℕ, ◌*◌, ◌^◌, ◌≤◌}
+use native.Mathlib.Omega.{arith}
+use mathlib.Core.Path.{◌≡◌, refl, ap}
+use borrow.Author.Rules.{rules}
+use native.Mathlib.Nat.{mul-le-mul, pow-le-pow_right}
+use lib.Dec.{leb}
+use borrow.Author.Tests.{lt-leb, le-leb}
+use Rattle.sheet.specs.Limits.{max_services, max_cabinets}
+use Rattle.rows.specs.Charges.{max_sets, all_sums}
+use Rattle.rows.specs.Rebuilds.{has_rows}
+use borrow.Author.Rules.{rules}
+use Rattle.rows.proofs.are_rows.Goals as goal
+
+pub returns-then-services-gt-MAX_SERVICES : goal.returns-then-services-gt-MAX_SERVICES
+unfolding has_rows
+returns-then-services-gt-MAX_SERVICES c = rw (lt-leb _ max_services c.if-services-gt-MAX_SERVICES.true) refl
+
+pub returns-then-cabinets-gt-MAX_CABINETS : goal.returns-then-cabinets-gt-MAX_CABINETS
+unfolding has_rows
+returns-then-cabinets-gt-MAX_CABINETS c = rw (le-leb _ max_services c.if-services-gt-MAX_SERVICES.false, lt-leb _ max_cabinets c.if-cabinets-gt-MAX_CABINETS.true) refl
+
+pub returns-then-sums-lt-SUMS : goal.returns-then-sums-lt-SUMS
+unfolding has_rows
+returns-then-sums-lt-SUMS c = rw (le-leb _ max_services c.if-services-gt-MAX_SERVICES.false, le-leb _ max_cabinets c.if-cabinets-gt-MAX_CABINETS.false, lt-leb all_sums _ c.if-sums-lt-SUMS.true) refl
+
+pub overflow_mul-entries : goal.overflow_mul-entries
+overflow_mul-entries c =
+    let s : 2 ^ c.args.services ≤ max_sets = pow-le-pow_right {n = 2} (omega arith) c.if-services-gt-MAX_SERVICES.false in
+    let n : c.args.cabinets ≤ max_cabinets = c.if-cabinets-gt-MAX_CABINETS.false in
+    let m : c.sets_of.result ≤ max_sets = omega (arith, s, c.sets_of.ensures) in
+    record { fits = omega (arith, mul-le-mul n m) }
+
+pub returns-then-costs-entries : goal.returns-then-costs-entries
+unfolding has_rows
+returns-then-costs-entries c =
+    let a = c.args in
+    let e : a.cabinets * c.sets_of.result ≡ a.cabinets * 2 ^ a.services = ap (λ (z : ℕ). a.cabinets * z) c.sets_of.ensures in
+    rw (le-leb _ max_services c.if-services-gt-MAX_SERVICES.false, le-leb _ max_cabinets c.if-cabinets-gt-MAX_CABINETS.false, le-leb all_sums _ c.if-sums-lt-SUMS.false, lt-leb (a.cabinets * 2 ^ a.services) a.costs (omega (arith, e, c.if-costs-entries.true))) refl
+
+pub returns : goal.returns
+unfolding has_rows
+returns c =
+    let a = c.args in
+    let e : a.cabinets * c.sets_of.result ≡ a.cabinets * 2 ^ a.services = ap (λ (z : ℕ). a.cabinets * z) c.sets_of.ensures in
+    rw (le-leb _ max_services c.if-services-gt-MAX_SERVICES.false, le-leb _ max_cabinets c.if-cabinets-gt-MAX_CABINETS.false, le-leb all_sums _ c.if-sums-lt-SUMS.false, le-leb (a.cabinets * 2 ^ a.services) a.costs (omega (arith, e, c.if-costs-entries.false))) (ap (λ (z : ℕ). leb z a.choices) e)

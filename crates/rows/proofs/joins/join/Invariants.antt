@@ -1,0 +1,16 @@
+-- `join` meets its contract, from the last set down.
+use Prim.Native.Nat.{ℕ, suc, ◌+◌, ◌-◌, ◌*◌, ◌≤◌}
+use native.Mathlib.Omega.{arith}
+use mathlib.Core.Path.{◌≡◌, subst}
+use borrow.Author.Rules.{rules}
+use lib.ListN.{length, set, length-set}
+use Rattle.subsets.specs.Inner.Folds.{figures}
+use Rattle.rows.proofs.Joining.{Partly, begin, step, all, counted_le, chosen_le}
+use Rattle.rows.proofs.Paired.{put_key}
+use Rattle.rows.proofs.joins.join.Given as goal
+
+abbrev pub invariant-loop-x : goal.invariant-loop-x
+invariant-loop-x l = (l.x ≤ length l.initial.row) × Partly l.initial.row l.child l.link l.initial.keys l.child_keys l.x l.row l.choice l.keys l.count
+
+abbrev pub decreases-loop-x : goal.decreases-loop-x
+decreases-loop-x l = l.x

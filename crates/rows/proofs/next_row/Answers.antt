@@ -1,0 +1,16 @@
+-- `next_row` meets its contract.
+use Prim.Native.Nat.{ℕ, suc, ◌+◌, ◌-◌, ◌*◌, ◌^◌, ◌≤◌, ◌<◌}
+use native.Mathlib.Omega.{arith}
+use mathlib.Core.Path.{◌≡◌, refl, sym, ap, ap₂, ◌∙◌, subst}
+use borrow.Author.Rules.{rules}
+use lib.ListN.{length, get_or, set, length-set}
+use mathlib.Core.Bool.{Bool}
+use Rattle.rows.specs.Paths.{next_row}
+use borrow.Author.Rules.{rules}
+use Rattle.rows.proofs.next_row.Goals as goal
+
+pub returns-then-whole : goal.returns-then-whole
+returns-then-whole c = ap (λ (b : Bool). next_row b c.args.parent c.args.q) (sym c.if-whole.true)
+
+pub returns : goal.returns
+returns c = ap (λ (b : Bool). next_row b c.args.parent c.args.q) (sym c.if-whole.false)
