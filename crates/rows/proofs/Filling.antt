@@ -1,6 +1,5 @@
 -- All rows rebuilt, from the last cabinet to the first: what is built stays built, and the keys kept are those of the choices.
 use Prim.Native.Nat.{ℕ, zero, suc, ◌+◌, ◌-◌, ◌*◌, ◌%◌, ◌^◌, ◌≤◌, ◌<◌}
-use native.Mathlib.Nat.{mul-le-mul_right}
 use native.Mathlib.Omega.{arith}
 use mathlib.Core.Path.{◌≡◌, refl, sym, ap, ap₂, ◌∙◌, subst}
 use mathlib.Core.Bool.{Bool, true, false}
@@ -9,10 +8,9 @@ use lib.Bits.{bit_and}
 use lib.Dec.{eqb, ltb, leb}
 use lib.ListN.{length}
 use borrow.Author.Tests.{eqb-true, eqb-false, lt-ltb, ltb-true, le-leb, lt-leb, leb-true, leb-false}
-use Rattle.finite.specs.Below as belows
 use Rattle.finite.specs.Below.{only, sum_below}
 use Rattle.finite.proofs.Booleans.{both, both_l, both_r, same_test}
-use Rattle.finite.proofs.Sums.{sum_ext, sum_add, sum_zero, sum_one, sum_le, only_le}
+use Rattle.finite.proofs.Sums.{sum_ext, sum_add, sum_zero, sum_one}
 use Rattle.subsets.specs.Inner.Net.{Falls}
 use Rattle.subsets.specs.Inner.Rows.{child}
 use Rattle.subsets.specs.Inner.Keys.{key_at, key_parts}
@@ -23,8 +21,6 @@ use Rattle.subsets.proofs.Rows.{child_parent}
 use Rattle.subsets.proofs.KeyRows as key-rows
 use Rattle.subsets.proofs.KeyRows.{key_alone, parts_ext}
 use Rattle.subsets.proofs.Rebuild.{Agree, row_agrees, entry_agrees, count_agrees, choice_le, entry_stays, key_join, key_pass}
-use Rattle.sheet.specs.Limits.{max_cabinets}
-use Rattle.rows.specs.Charges.{max_sets}
 use Rattle.rows.specs.Cabinets.{parent_of}
 use Rattle.rows.specs.Keys as weights
 use Rattle.rows.specs.Keys.{base, low_digits, tree}
@@ -33,7 +29,7 @@ use Rattle.rows.specs.Rebuilds.{entry, back_key, key_entry, source, Rebuilds, Ke
 use Rattle.records.specs.declared.Records.{Records}
 use Rattle.rows.proofs.Paired.{key_is}
 use Rattle.rows.proofs.Slots.{slot_apart}
-use Rattle.rows.proofs.Rebuilding.{back_same, count_le}
+use Rattle.rows.proofs.Rebuilding.{back_same}
 
 module _ (k : Records) (size : ℕ) (sums : List ℕ) where
   -- the splits counted for the row of d

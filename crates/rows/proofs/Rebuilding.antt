@@ -17,7 +17,7 @@ use Rattle.subsets.specs.declared.Best.{Best}
 use Rattle.subsets.specs.declared.Key.{Key}
 use Rattle.subsets.specs.Inner.Net.{Falls}
 use Rattle.subsets.specs.Inner.Keys.{key_parts}
-use Rattle.subsets.specs.Inner.Folds.{earlier, plus, split_key, by_key, best_split, counted_below}
+use Rattle.subsets.specs.Inner.Folds.{earlier, plus, split_key, by_key, best_split}
 use Rattle.subsets.specs.Inner.Rebuild as rebuild
 use Rattle.subsets.specs.Inner.Rebuild.{Source, best_join, rebuilt_row, rebuilt_key, rebuilt_choice, join_count, rebuilt_entry, rebuilt_count}
 use Rattle.subsets.proofs.Folds.{any_cost, best_ext, counted_ext}

@@ -2,7 +2,6 @@
 use Prim.Native.Nat.{◌≤◌, ◌-◌}
 use mathlib.Core.Path.{◌≡◌}
 use lib.ListN.{length}
-use borrow.Author.Rules.{rules}
 use Rattle.check_cases.proofs.put_cabinets.Given as goal
 
 abbrev pub invariant-loop-c : goal.invariant-loop-c

@@ -1,7 +1,5 @@
 -- `field` meets its contract.
-use Prim.Native.Nat.{◌-◌}
 use mathlib.Core.Path.{refl, sym}
-use borrow.Author.Rules.{rules}
 use lib.ListN.{get_or-eq_default}
 use borrow.Author.Tests.{le-ltb, lt-ltb}
 use Rattle.finite.specs.Below.{only}

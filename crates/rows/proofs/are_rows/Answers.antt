@@ -2,14 +2,12 @@
 use Prim.Native.Nat.{ℕ, ◌*◌, ◌^◌, ◌≤◌}
 use native.Mathlib.Omega.{arith}
 use mathlib.Core.Path.{◌≡◌, refl, ap}
-use borrow.Author.Rules.{rules}
 use native.Mathlib.Nat.{mul-le-mul, pow-le-pow_right}
 use lib.Dec.{leb}
 use borrow.Author.Tests.{lt-leb, le-leb}
 use Rattle.sheet.specs.Limits.{max_services, max_cabinets}
 use Rattle.rows.specs.Charges.{max_sets, all_sums}
 use Rattle.rows.specs.Rebuilds.{has_rows}
-use borrow.Author.Rules.{rules}
 use Rattle.rows.proofs.are_rows.Goals as goal
 
 pub returns-then-services-gt-MAX_SERVICES : goal.returns-then-services-gt-MAX_SERVICES

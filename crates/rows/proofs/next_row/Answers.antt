@@ -1,12 +1,7 @@
 -- `next_row` meets its contract.
-use Prim.Native.Nat.{ℕ, suc, ◌+◌, ◌-◌, ◌*◌, ◌^◌, ◌≤◌, ◌<◌}
-use native.Mathlib.Omega.{arith}
-use mathlib.Core.Path.{◌≡◌, refl, sym, ap, ap₂, ◌∙◌, subst}
-use borrow.Author.Rules.{rules}
-use lib.ListN.{length, get_or, set, length-set}
+use mathlib.Core.Path.{sym, ap}
 use mathlib.Core.Bool.{Bool}
 use Rattle.rows.specs.Paths.{next_row}
-use borrow.Author.Rules.{rules}
 use Rattle.rows.proofs.next_row.Goals as goal
 
 pub returns-then-whole : goal.returns-then-whole

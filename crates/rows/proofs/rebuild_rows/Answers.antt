@@ -1,9 +1,8 @@
 -- `rebuild_rows` meets its contract.
-use Prim.Native.Nat.{ℕ, suc, ◌+◌, ◌-◌, ◌*◌, ◌^◌, ◌≤◌, ◌<◌}
+use Prim.Native.Nat.{ℕ, ◌+◌, ◌-◌, ◌*◌, ◌≤◌, ◌<◌}
 use native.Mathlib.Omega.{arith}
-use mathlib.Core.Path.{◌≡◌, refl, sym, ap, ap₂, ◌∙◌, subst}
-use borrow.Author.Rules.{rules}
-use lib.ListN.{length, get_or, set, length-set}
+use mathlib.Core.Path.{◌≡◌, refl, sym, ap, ◌∙◌, subst}
+use lib.ListN.{get_or}
 use Prim.Native.Nat.{◌/◌, ◌%◌}
 use mathlib.Core.Bool.{Bool}
 use mathlib.Core.List.{List}
@@ -11,7 +10,6 @@ use native.Mathlib.Nat.{mul-le-mul_right}
 use Rattle.rows.specs.Cabinets.{parent_of}
 use Rattle.records.specs.declared.Records.{Records}
 use Rattle.rows.specs.Rebuilds.{source, FillRoom, Rebuilds}
-use Rattle.rows.specs.Charges.{max_sets}
 use Rattle.rows.specs.Paths.{next_row}
 use Rattle.rows.proofs.Slots.{key_places, kept_places, rows_kept}
 use Rattle.rows.proofs.Rebuilding.{field_at, count_le}

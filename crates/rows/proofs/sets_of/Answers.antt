@@ -1,8 +1,7 @@
 -- `sets_of` meets its contract: the shift loses nothing.
-use Prim.Native.Nat.{◌-◌, ◌*◌, ◌^◌}
+use Prim.Native.Nat.{◌*◌, ◌^◌}
 use native.Mathlib.Omega.{arith}
 use mathlib.Core.Path.{◌≡◌, ◌∙◌}
-use borrow.Author.Rules.{rules}
 use lib.Pow.{shl_exact}
 use Rattle.rows.proofs.sets_of.Goals as goal
 

@@ -2,7 +2,6 @@
 use Prim.Native.Nat.{◌≤◌, ◌-◌}
 use mathlib.Core.Path.{◌≡◌}
 use lib.ListN.{length}
-use borrow.Author.Rules.{rules}
 use Rattle.check_cases.proofs.framing.put_hundred.Given as goal
 
 abbrev pub invariant-loop-j : goal.invariant-loop-j

@@ -1,5 +1,4 @@
 -- `is_joint` meets its contract.
-use borrow.Author.Rules.{rules}
 use borrow.Author.Tests.{le-ltb, lt-ltb}
 use Prim.Native.Nat.{◌<◌}
 use native.Mathlib.Omega.{arith}

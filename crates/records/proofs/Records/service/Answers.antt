@@ -1,7 +1,6 @@
 -- `service` meets its contract.
-use Prim.Native.Nat.{ℕ, ◌-◌}
+use Prim.Native.Nat.{ℕ}
 use mathlib.Core.Path.{ap, ◌∙◌}
-use borrow.Author.Rules.{rules}
 use Rattle.records.specs.Told.{told}
 use Rattle.records.proofs.Records.service.Goals as goal
 

@@ -1,7 +1,5 @@
 -- `stream` meets its contract.
-use Prim.Native.Nat.{◌-◌}
 use mathlib.Core.Path.{refl}
-use borrow.Author.Rules.{rules}
 use Rattle.records.specs.Told.{told}
 use Rattle.records.proofs.Records.stream.Goals as goal
 

@@ -1,8 +1,7 @@
 -- `barred_sets` meets its contract: each pair adds its service to the set of its cabinet.
-use Prim.Native.Nat.{ℕ, ◌+◌, ◌-◌, ◌≤◌, ◌<◌}
+use Prim.Native.Nat.{ℕ, ◌+◌, ◌<◌}
 use native.Mathlib.Omega.{arith}
-use mathlib.Core.Path.{◌≡◌, sym, subst}
-use borrow.Author.Rules.{rules}
+use mathlib.Core.Path.{sym, subst}
 use lib.ListN.{set}
 use Rattle.sheet.specs.Limits.{max_cabinets}
 use Rattle.sheet.specs.Instance.{instance, WellFormed}
@@ -20,9 +19,6 @@ After_pair_at = lts.After-pair_at tie.the-claims reads.Pre reads.Post goal.the-i
 
 pub loop-n-init : goal.loop-n-init
 loop-n-init c = (none_barred c.args.sheet c.args.bytes.now, omega arith)
-
-pub pair_at-pair-requires : goal.pair_at-pair-requires
-pair_at-pair-requires c = (c.requires, omega (arith, c.pairs-count.ensures))
 
 -- a pair of the sheet names a service and a cabinet that fit the sets
 well : (c : After_pair_at) → WellFormed (instance c.args.bytes.now)
@@ -54,9 +50,3 @@ loop-n-preserved c =
           (next_barred a.sheet a.bytes.now l.n l.sets c.pair_at-pair.result c.pair_at-pair.ensures.0 (place c.before.before) l.invariant.0),
       omega arith,
     )
-
-pub returns : goal.returns
-returns c =
-    let a = c.args in
-    let l = c.loop-n in
-    subst (λ (n : ℕ). Barring a.sheet a.bytes.now n l.sets) (let e : l.n ≡ a.sheet.pairs = omega (arith, l.invariant.1, c.pairs-count.ensures) in e) l.invariant.0

@@ -1,6 +1,5 @@
 -- `cabinet_at` meets its contract: an accepted sheet gives every record that it has.
-use mathlib.Core.Path.{sym, ◌∙◌}
-use borrow.Author.Rules.{rules}
+use mathlib.Core.Path.{◌∙◌}
 use Rattle.sheet.proofs.Given.{same_cabinet, cabinet_there}
 use Rattle.sheet.proofs.Promises.{cabinet_given}
 use Rattle.records.proofs.loading.cabinet_at.Goals as goal

@@ -1,11 +1,7 @@
 -- `joints` meets its contract: each cabinet is marked by its capacity.
-use Prim.Native.Nat.{ℕ, ◌-◌, ◌≤◌}
-use native.Mathlib.Omega.{arith}
-use mathlib.Core.Path.{◌≡◌, refl, subst}
-use borrow.Author.Rules.{rules}
+use Prim.Native.Nat.{◌-◌, ◌≤◌}
 use Rattle.sheet.specs.Limits.{max_cabinets}
 use Rattle.records.specs.Inner.Loading.{Jointed}
-use Rattle.records.proofs.Joints.{none_jointed, next_jointed}
 use Rattle.records.proofs.loading.joints.Given as goal
 
 abbrev pub invariant-loop-c : goal.invariant-loop-c

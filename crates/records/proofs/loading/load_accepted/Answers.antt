@@ -1,5 +1,4 @@
 -- `load_accepted` meets its contract: nothing, then the services, the cabinets, the streams, what is barred and the joints are loaded.
-use borrow.Author.Rules.{rules}
 use mathlib.Core.Path.{◌∙◌}
 use Rattle.sheet.specs.Instance.{instance}
 use Rattle.sheet.proofs.Promises as promises

@@ -1,7 +1,6 @@
 -- `pair_at` meets its contract: an accepted sheet gives every pair that it has.
 use mathlib.Core.Path.{sym, ap, ◌∙◌}
 use native.Mathlib.Omega.{arith}
-use borrow.Author.Rules.{rules}
 use Rattle.sheet.specs.declared.Pair.{Pair}
 use Rattle.sheet.proofs.Given.{same_pair, pair_there}
 use Rattle.sheet.proofs.Promises.{pair_given}

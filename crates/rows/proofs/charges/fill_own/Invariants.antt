@@ -1,11 +1,8 @@
 -- `fill_own` meets its contract.
 use Prim.Native.Nat.{ℕ, ◌-◌, ◌≤◌, ◌<◌}
-use native.Mathlib.Omega.{arith}
-use mathlib.Core.Path.{◌≡◌, ap, ◌∙◌}
-use borrow.Author.Rules.{rules}
-use lib.ListN.{length, get_or, length-set}
+use mathlib.Core.Path.{◌≡◌}
+use lib.ListN.{length, get_or}
 use Rattle.rows.specs.Charges.{own_figure, demanded}
-use Rattle.rows.proofs.Written.{next_written}
 use Rattle.rows.proofs.charges.fill_own.Given as goal
 
 abbrev pub invariant-loop-x : goal.invariant-loop-x

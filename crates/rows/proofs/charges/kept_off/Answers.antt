@@ -1,6 +1,5 @@
 -- `kept_off` meets its contract.
 use mathlib.Core.Path.{refl, ap}
-use borrow.Author.Rules.{rules}
 use lib.Bits.{bit_and}
 use Rattle.rows.proofs.charges.kept_off.Goals as goal
 

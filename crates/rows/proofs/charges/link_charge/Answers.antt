@@ -1,7 +1,6 @@
 -- `link_charge` meets its contract: the products have at most 48 bits.
-use Prim.Native.Nat.{◌-◌, ◌≤◌, ◌<◌}
+use Prim.Native.Nat.{◌≤◌, ◌<◌}
 use native.Mathlib.Omega.{arith}
-use borrow.Author.Rules.{rules}
 use borrow.Author.Tests.{le-leb, lt-leb}
 use Rattle.subsets.specs.Costs.{provided}
 use Rattle.subsets.specs.Inner.Encoded.{figure}

@@ -1,9 +1,8 @@
 -- `link_row` meets its contract.
-use Prim.Native.Nat.{ℕ, ◌-◌, ◌≤◌, ◌<◌}
 use native.Mathlib.Omega.{arith}
-use mathlib.Core.Path.{◌≡◌, ap₂, ◌∙◌}
+use mathlib.Core.Path.{ap₂, ◌∙◌}
 use borrow.Author.Rules.{rules}
-use lib.ListN.{length, get_or, length-set}
+use lib.ListN.{length-set}
 use Rattle.records.specs.declared.flows.Flow.{Flow}
 use Rattle.rows.specs.Charges.{link_figure, run_out, run_in}
 use Rattle.rows.proofs.Written.{next_written}

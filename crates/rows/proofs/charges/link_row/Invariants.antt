@@ -1,12 +1,8 @@
 -- `link_row` meets its contract.
 use Prim.Native.Nat.{ℕ, ◌-◌, ◌≤◌, ◌<◌}
-use native.Mathlib.Omega.{arith}
-use mathlib.Core.Path.{◌≡◌, ap₂, ◌∙◌}
-use borrow.Author.Rules.{rules}
-use lib.ListN.{length, get_or, length-set}
-use Rattle.records.specs.declared.flows.Flow.{Flow}
+use mathlib.Core.Path.{◌≡◌}
+use lib.ListN.{length, get_or}
 use Rattle.rows.specs.Charges.{link_figure, run_out, run_in}
-use Rattle.rows.proofs.Written.{next_written}
 use Rattle.rows.proofs.charges.link_row.Given as goal
 
 abbrev pub invariant-loop-x : goal.invariant-loop-x

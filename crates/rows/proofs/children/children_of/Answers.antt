@@ -1,8 +1,7 @@
 -- `children_of` meets its contract.
-use Prim.Native.Nat.{◌+◌, ◌-◌, ◌≤◌}
 use native.Mathlib.Omega.{arith}
 use borrow.Author.Rules.{rules}
-use Rattle.rows.proofs.Linking.{Begun, begin, step, stopped, finish}
+use Rattle.rows.proofs.Linking.{begin, step, stopped, finish}
 use Rattle.rows.proofs.children.children_of.Goals as goal
 
 pub loop-c-init : goal.loop-c-init

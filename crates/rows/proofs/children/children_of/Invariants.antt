@@ -1,8 +1,6 @@
 -- `children_of` meets its contract.
 use Prim.Native.Nat.{◌+◌, ◌-◌, ◌≤◌}
-use native.Mathlib.Omega.{arith}
-use borrow.Author.Rules.{rules}
-use Rattle.rows.proofs.Linking.{Begun, begin, step, stopped, finish}
+use Rattle.rows.proofs.Linking.{Begun}
 use Rattle.rows.proofs.children.children_of.Given as goal
 
 abbrev pub invariant-loop-c : goal.invariant-loop-c

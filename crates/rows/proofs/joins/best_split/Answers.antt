@@ -2,7 +2,6 @@
 use Prim.Native.Nat.{ℕ, suc, ◌+◌, ◌-◌, ◌≤◌, ◌<◌}
 use native.Mathlib.Omega.{arith}
 use mathlib.Core.Path.{◌≡◌, refl, sym, ap, ap₂, ◌∙◌}
-use borrow.Author.Rules.{rules}
 use mathlib.Core.Bool.{Bool, ◌&&◌}
 use lib.Bits.{bit_and, and_self, and_le_l, and_le_r, and_zero_l}
 use Rattle.subsets.specs.declared.Best.{Best}
@@ -13,7 +12,6 @@ use Rattle.subsets.proofs.Sets.{Sub, sub_and, sub_le}
 use Rattle.subsets.proofs.Figures.{counted_le}
 use Rattle.subsets.proofs.Folds.{try_at, scan_at, scan_next, scan_end, tried_sub}
 use Rattle.rows.specs.Keys.{key_in}
-use Rattle.rows.specs.Joins.{best_of}
 use Rattle.rows.proofs.joins.best_split.Goals as goal
 
 -- One turn, by what its calls give: the split that places a is tried.

@@ -1,17 +1,8 @@
 -- `best_split` meets its contract.
-use Prim.Native.Nat.{ℕ, suc, ◌+◌, ◌-◌, ◌≤◌, ◌<◌}
-use native.Mathlib.Omega.{arith}
-use mathlib.Core.Path.{◌≡◌, refl, sym, ap, ap₂, ◌∙◌}
-use borrow.Author.Rules.{rules}
-use mathlib.Core.Bool.{Bool, ◌&&◌}
-use lib.Bits.{bit_and, and_self, and_le_l, and_le_r, and_zero_l}
-use Rattle.subsets.specs.declared.Best.{Best}
-use Rattle.subsets.specs.Inner.Folds.{figures, scan, best_split, by_key, after, is_tie}
-use Rattle.subsets.specs.declared.Weighed.{Weighed}
-use Rattle.subsets.specs.Figures.{weighing}
-use Rattle.subsets.proofs.Sets.{Sub, sub_and, sub_le}
-use Rattle.subsets.proofs.Figures.{counted_le}
-use Rattle.subsets.proofs.Folds.{try_at, scan_at, scan_next, scan_end, tried_sub}
+use Prim.Native.Nat.{suc, ◌+◌, ◌≤◌}
+use mathlib.Core.Path.{◌≡◌}
+use Rattle.subsets.specs.Inner.Folds.{figures, scan, by_key}
+use Rattle.subsets.proofs.Sets.{Sub}
 use Rattle.rows.specs.Keys.{key_in}
 use Rattle.rows.specs.Joins.{best_of}
 use Rattle.rows.proofs.joins.best_split.Given as goal

@@ -1,5 +1,4 @@
 -- `better` meets its contract: the branch is the test of `after`.
-use borrow.Author.Rules.{rules}
 use Rattle.rows.proofs.joins.better.Goals as goal
 
 pub returns-then-won-weighed : goal.returns-then-won-weighed

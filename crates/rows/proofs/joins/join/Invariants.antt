@@ -1,12 +1,7 @@
 -- `join` meets its contract, from the last set down.
-use Prim.Native.Nat.{ℕ, suc, ◌+◌, ◌-◌, ◌*◌, ◌≤◌}
-use native.Mathlib.Omega.{arith}
-use mathlib.Core.Path.{◌≡◌, subst}
-use borrow.Author.Rules.{rules}
-use lib.ListN.{length, set, length-set}
-use Rattle.subsets.specs.Inner.Folds.{figures}
-use Rattle.rows.proofs.Joining.{Partly, begin, step, all, counted_le, chosen_le}
-use Rattle.rows.proofs.Paired.{put_key}
+use Prim.Native.Nat.{◌≤◌}
+use lib.ListN.{length}
+use Rattle.rows.proofs.Joining.{Partly}
 use Rattle.rows.proofs.joins.join.Given as goal
 
 abbrev pub invariant-loop-x : goal.invariant-loop-x

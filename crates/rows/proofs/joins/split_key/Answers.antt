@@ -1,7 +1,6 @@
 -- `split_key` meets its contract: keys are small, so the sums fit.
 use Prim.Native.Nat.{◌+◌, ◌*◌}
 use native.Mathlib.Omega.{arith}
-use borrow.Author.Rules.{rules}
 use Rattle.rows.proofs.joins.split_key.Goals as goal
 
 pub overflow_add-result : goal.overflow_add-result

@@ -1,12 +1,10 @@
 -- `wins_tie` meets its contract.
 use native.Mathlib.Omega.{arith}
 use mathlib.Core.Path.{sym, ap₂, ◌∙◌}
-use borrow.Author.Rules.{rules}
 use mathlib.Core.Bool.{◌&&◌, and-false}
-use Rattle.subsets.specs.Inner.Folds.{key_before, by_key, is_tie}
+use Rattle.subsets.specs.Inner.Folds.{key_before, by_key}
 use Rattle.subsets.proofs.Ties.{no_tie}
 use Rattle.rows.specs.Keys.{key_in}
-use borrow.Author.Rules.{rules}
 use Rattle.rows.proofs.joins.wins_tie.Goals as goal
 
 pub split_key-key-requires : goal.split_key-key-requires

@@ -1,13 +1,12 @@
 -- `read_key` meets its contract, step by step; what is read for itself is a smaller set, which is a measure.
-use Prim.Native.Nat.{ℕ, ◌+◌, ◌*◌, ◌<◌}
+use Prim.Native.Nat.{ℕ, ◌<◌}
 use native.Mathlib.Omega.{arith}
 use mathlib.Core.Path.{◌≡◌, refl, sym, ap, subst}
-use lib.Bits.{bit_and, and_le_r}
-use borrow.Author.Rules.{rules}
+use lib.Bits.{bit_and}
 use Rattle.sheet.specs.Limits.{max_cabinets}
 use Rattle.rows.specs.Reads.{Started}
 use Rattle.rows.specs.Rebuilds.{entry}
-use Rattle.rows.proofs.Reading.{walk_down, begin, is_child, in_table, index_small, prior_less, last_small, stays_le, pass, descend, sibling, divide, sums_small, finish_small, finished}
+use Rattle.rows.proofs.Reading.{walk_down, is_child, in_table, index_small, prior_less, last_small, stays_le, pass, descend, sibling, divide, sums_small, finish_small, finished}
 use Rattle.rows.proofs.keys.+read_key.Goals as goal
 
 pub overflow_mul-child : goal.overflow_mul-child

@@ -1,12 +1,7 @@
 -- `own_keys` meets its contract.
 use Prim.Native.Nat.{ℕ, ◌-◌, ◌*◌, ◌≤◌, ◌<◌}
-use native.Mathlib.Omega.{arith}
-use mathlib.Core.Path.{◌≡◌, ap₂}
-use borrow.Author.Rules.{rules}
-use lib.ListN.{length, get_or, length-set}
-use Rattle.sheet.specs.Limits.{max_cabinets}
-use native.Mathlib.Nat.{mul-le-mul}
-use Rattle.rows.proofs.Written.{next_written}
+use mathlib.Core.Path.{◌≡◌}
+use lib.ListN.{length, get_or}
 use Rattle.rows.proofs.keys.own_keys.Given as goal
 
 abbrev pub invariant-loop-i : goal.invariant-loop-i

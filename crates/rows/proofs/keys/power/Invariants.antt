@@ -1,10 +1,7 @@
 -- `power` meets its contract.
-use Prim.Native.Nat.{ℕ, ◌-◌, ◌^◌, ◌≤◌}
-use native.Mathlib.Omega.{arith}
-use mathlib.Core.Path.{◌≡◌, refl, ap, ◌∙◌}
-use borrow.Author.Rules.{rules}
+use Prim.Native.Nat.{◌-◌, ◌^◌, ◌≤◌}
+use mathlib.Core.Path.{◌≡◌}
 use Rattle.rows.specs.Keys.{base}
-use Rattle.rows.proofs.Weighing.{power_le, power_next}
 use Rattle.rows.proofs.keys.power.Given as goal
 
 abbrev pub invariant-loop-i : goal.invariant-loop-i

@@ -1,13 +1,13 @@
 -- `read_keys` meets its contract.
-use Prim.Native.Nat.{ℕ, ◌-◌, ◌*◌, ◌≤◌, ◌<◌}
+use Prim.Native.Nat.{ℕ, ◌*◌, ◌<◌}
 use native.Mathlib.Omega.{arith}
 use mathlib.Core.Path.{◌≡◌, ◌∙◌}
 use borrow.Author.Rules.{rules}
 use mathlib.Core.List.{List}
-use lib.ListN.{length, get_or, set, length-set}
+use lib.ListN.{get_or, length-set}
 use Rattle.subsets.specs.Inner.Net.{Net}
 use Rattle.subsets.specs.Inner.Keys.{key_parts}
-use Rattle.rows.specs.Keys.{base, low_digits, key_in}
+use Rattle.rows.specs.Keys.{base, low_digits}
 use Rattle.rows.specs.Reads.{Readable, Started}
 use Rattle.rows.specs.Rebuilds.{entry}
 use Rattle.rows.proofs.Reading.{size_le}

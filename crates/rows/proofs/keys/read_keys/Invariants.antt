@@ -1,16 +1,12 @@
 -- `read_keys` meets its contract.
-use Prim.Native.Nat.{ℕ, ◌-◌, ◌*◌, ◌≤◌, ◌<◌}
-use native.Mathlib.Omega.{arith}
-use mathlib.Core.Path.{◌≡◌, ◌∙◌}
-use borrow.Author.Rules.{rules}
-use lib.ListN.{length, set, length-set}
+use Prim.Native.Nat.{ℕ, ◌-◌, ◌≤◌, ◌<◌}
+use mathlib.Core.Path.{◌≡◌}
+use lib.ListN.{length}
 use Rattle.subsets.specs.Inner.Net.{Net}
 use Rattle.subsets.specs.Inner.Keys.{key_parts}
 use Rattle.rows.specs.Keys.{base, low_digits, key_in}
-use Rattle.rows.specs.Reads.{Readable, Started}
+use Rattle.rows.specs.Reads.{Readable}
 use Rattle.rows.specs.Rebuilds.{entry}
-use Rattle.rows.proofs.Reading.{size_le}
-use Rattle.rows.proofs.Paired.{put_length, next_key}
 use Rattle.rows.proofs.keys.read_keys.Given as goal
 
 abbrev pub invariant-loop-x : goal.invariant-loop-x

@@ -1,11 +1,10 @@
 -- `weigh_sets` meets its contract.
-use Prim.Native.Nat.{ℕ, suc, ◌+◌, ◌-◌, ◌*◌, ◌^◌, ◌≤◌, ◌<◌}
+use Prim.Native.Nat.{◌*◌}
 use native.Mathlib.Omega.{arith}
-use mathlib.Core.Path.{◌≡◌, refl, sym, ap, ap₂, ◌∙◌, subst}
+use mathlib.Core.Path.{refl, ap}
 use borrow.Author.Rules.{rules}
-use lib.ListN.{length, get_or, set, length-set}
+use lib.ListN.{length-set}
 use Rattle.subsets.specs.declared.Key.{Key}
-use Rattle.rows.specs.Reads.{Weighted}
 use Rattle.rows.proofs.Weighing.{set_weight_le, weighed_next, weighed_all}
 use Rattle.rows.proofs.keys.weigh_sets.Goals as goal
 

@@ -1,12 +1,8 @@
 -- `weigh_sets` meets its contract.
-use Prim.Native.Nat.{ℕ, suc, ◌+◌, ◌-◌, ◌*◌, ◌^◌, ◌≤◌, ◌<◌}
-use native.Mathlib.Omega.{arith}
-use mathlib.Core.Path.{◌≡◌, refl, sym, ap, ap₂, ◌∙◌, subst}
-use borrow.Author.Rules.{rules}
-use lib.ListN.{length, get_or, set, length-set}
-use Rattle.subsets.specs.declared.Key.{Key}
+use Prim.Native.Nat.{◌-◌, ◌≤◌}
+use mathlib.Core.Path.{◌≡◌}
+use lib.ListN.{length}
 use Rattle.rows.specs.Reads.{Weighted}
-use Rattle.rows.proofs.Weighing.{set_weight_le, weighed_next, weighed_all}
 use Rattle.rows.proofs.keys.weigh_sets.Given as goal
 
 abbrev pub invariant-loop-x : goal.invariant-loop-x

@@ -1,9 +1,8 @@
 -- `weight_in` meets its contract.
-use Prim.Native.Nat.{◌+◌, ◌-◌, ◌≤◌}
+use Prim.Native.Nat.{◌+◌}
 use native.Mathlib.Omega.{arith}
-use mathlib.Core.Path.{◌≡◌}
 use borrow.Author.Rules.{rules}
-use Rattle.rows.proofs.Weighing.{high_in, low_in, weigh_start, high_next, low_next, weigh_le, weigh_end}
+use Rattle.rows.proofs.Weighing.{weigh_start, high_next, low_next, weigh_le, weigh_end}
 use Rattle.rows.proofs.keys.weight_in.Goals as goal
 
 pub loop-i-init : goal.loop-i-init

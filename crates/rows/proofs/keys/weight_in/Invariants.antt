@@ -1,9 +1,7 @@
 -- `weight_in` meets its contract.
-use Prim.Native.Nat.{◌+◌, ◌-◌, ◌≤◌}
-use native.Mathlib.Omega.{arith}
+use Prim.Native.Nat.{◌-◌, ◌≤◌}
 use mathlib.Core.Path.{◌≡◌}
-use borrow.Author.Rules.{rules}
-use Rattle.rows.proofs.Weighing.{high_in, low_in, weigh_start, high_next, low_next, weigh_le, weigh_end}
+use Rattle.rows.proofs.Weighing.{high_in, low_in}
 use Rattle.rows.proofs.keys.weight_in.Given as goal
 
 abbrev pub invariant-loop-i : goal.invariant-loop-i

@@ -1,8 +1,6 @@
 -- `weight_of` meets its contract.
 use native.Mathlib.Omega.{arith}
-use borrow.Author.Rules.{rules}
 use Rattle.rows.proofs.Weighing.{near_weight, far_weight}
-use borrow.Author.Rules.{rules}
 use Rattle.rows.proofs.keys.weight_of.Goals as goal
 
 pub returns-then-exponent-lt-LOW_DIGITS : goal.returns-then-exponent-lt-LOW_DIGITS

@@ -1,10 +1,7 @@
 -- `copy_row` meets its contract.
 use Prim.Native.Nat.{ℕ, ◌-◌, ◌≤◌, ◌<◌}
-use native.Mathlib.Omega.{arith}
-use mathlib.Core.Path.{◌≡◌, refl}
-use borrow.Author.Rules.{rules}
-use lib.ListN.{length, get_or, length-set}
-use Rattle.rows.proofs.Written.{next_written}
+use mathlib.Core.Path.{◌≡◌}
+use lib.ListN.{length, get_or}
 use Rattle.rows.proofs.tables.copy_row.Given as goal
 
 abbrev pub invariant-loop-x : goal.invariant-loop-x
