@@ -1,5 +1,5 @@
 -- What a set of services asks for: its demand, and what runs out of it and into it.
-use Rattle.std.specs.Prelude.{◌≡◌, ℕ, ◌+◌, ◌*◌, ◌<◌, not, ◌&&◌, List, length, set, slice_index, slice_set}
+use Rattle.std.specs.Prelude.{◌≡◌, ℕ, ◌+◌, ◌*◌, ◌<◌, not, ◌&&◌, List, length, slice_index, slice_set}
 use Rattle.finite.specs.Below.{only, sum_below}
 use Rattle.subsets.specs.Sets.{has}
 use Rattle.records.specs.Flows.{frames_in}

@@ -1,6 +1,6 @@
 -- What the two tables hold once they are filled: the least charges over the net of the records, and the splits that win.
 -- t is a cost table and u a choice table; a row has 2^r entries, one for each set of services.
-use Rattle.std.specs.Prelude.{◌≡◌, ℕ, ◌*◌, ◌^◌, ◌<◌, ◌≤◌, Bool, true, false, cond, ◌&&◌, List, length, replicate, ◌==◌, bit_and, nat_lt, slice_index}
+use Rattle.std.specs.Prelude.{◌≡◌, ℕ, ◌*◌, ◌^◌, ◌<◌, Bool, true, false, cond, ◌&&◌, List, length, replicate, ◌==◌, bit_and, nat_lt, slice_index}
 use Rattle.finite.specs.Below.{only, sum_below}
 use Rattle.subsets.specs.Costs.{Cost, none, some}
 use Rattle.subsets.specs.Figures.{is_cost}
