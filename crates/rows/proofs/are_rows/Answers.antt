@@ -1,12 +1,11 @@
 -- `are_rows` meets its contract.
-use Prim.Native.Nat.{ℕ, ◌*◌, ◌^◌, ◌≤◌}
+use Prim.Native.Nat.{ℕ, ◌*◌, ◌^◌}
 use native.Mathlib.Omega.{arith}
 use mathlib.Core.Path.{◌≡◌, refl, ap}
-use native.Mathlib.Nat.{mul-le-mul, pow-le-pow_right}
 use lib.Dec.{leb}
 use borrow.Author.Tests.{lt-leb, le-leb}
 use Rattle.sheet.specs.Limits.{max_services, max_cabinets}
-use Rattle.rows.specs.Charges.{max_sets, all_sums}
+use Rattle.rows.specs.Charges.{all_sums}
 use Rattle.rows.specs.Rebuilds.{has_rows}
 use Rattle.rows.proofs.are_rows.Goals as goal
 
@@ -21,13 +20,6 @@ returns-then-cabinets-gt-MAX_CABINETS c = rw (le-leb _ max_services c.if-service
 pub returns-then-sums-lt-SUMS : goal.returns-then-sums-lt-SUMS
 unfolding has_rows
 returns-then-sums-lt-SUMS c = rw (le-leb _ max_services c.if-services-gt-MAX_SERVICES.false, le-leb _ max_cabinets c.if-cabinets-gt-MAX_CABINETS.false, lt-leb all_sums _ c.if-sums-lt-SUMS.true) refl
-
-pub overflow_mul-entries : goal.overflow_mul-entries
-overflow_mul-entries c =
-    let s : 2 ^ c.args.services ≤ max_sets = pow-le-pow_right {n = 2} (omega arith) c.if-services-gt-MAX_SERVICES.false in
-    let n : c.args.cabinets ≤ max_cabinets = c.if-cabinets-gt-MAX_CABINETS.false in
-    let m : c.sets_of.result ≤ max_sets = omega (arith, s, c.sets_of.ensures) in
-    record { fits = omega (arith, mul-le-mul n m) }
 
 pub returns-then-costs-entries : goal.returns-then-costs-entries
 unfolding has_rows

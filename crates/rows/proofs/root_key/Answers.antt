@@ -5,15 +5,14 @@ use mathlib.Core.Path.{◌≡◌, sym, ◌∙◌}
 use lib.ListN.{length}
 use mathlib.Core.Bool.{Bool, true}
 use lib.Dec.{leb}
-use lib.Pow.{pow_pos}
 use native.Mathlib.Nat.{pow-le-pow_right}
-use borrow.Author.Tests.{leb-true, le-leb}
-use Rattle.finite.proofs.Booleans.{clash, both, both_l, both_r}
+use borrow.Author.Tests.{le-leb}
+use Rattle.finite.proofs.Booleans.{both}
 use Rattle.sheet.specs.Limits.{max_services}
 use Rattle.rows.specs.Charges.{max_sets, all_sums}
 use Rattle.rows.specs.Keys.{tree}
 use Rattle.rows.specs.Rebuilds.{has_rows}
-use Rattle.rows.proofs.Guards.{Passed, passed, no_key, root_keyed, root_readable, root_started}
+use Rattle.rows.proofs.Guards.{Passed, passed, root_keyed, root_readable, root_started}
 use Rattle.rows.proofs.root_key.Goals as goal
 
 -- the counts are within the arrays, and the table has room
@@ -24,25 +23,8 @@ roomy e h = passed _ _ _ _ _ (sym e ∙ h)
 few : {r size : ℕ} → size ≡ 2 ^ r → r ≤ max_services → size ≤ max_sets
 few {r} e h = omega (arith, e, let z : 2 ^ r ≤ 2 ^ max_services = pow-le-pow_right {n = 2} (omega arith) h in z)
 
-pub returns-then-n-lt1 : goal.returns-then-n-lt1
-returns-then-n-lt1 c =
-    let k = c.args.records in
-    no_key k c.args.choices.now (λ e. absurd (omega (arith, c.if-n-lt1.true, leb-true 1 k.cabinets (both_l (leb 1 k.cabinets) _ e))))
-
-pub returns-then-not-are_rows : goal.returns-then-not-are_rows
-returns-then-not-are_rows c =
-    let k = c.args.records in
-    let u = c.args.choices.now in
-    no_key k u (λ e. clash (sym (c.are_rows.ensures ∙ both_l (has_rows k.services k.cabinets all_sums (length u) (length u)) _ (both_r (leb 1 k.cabinets) _ e)) ∙ c.if-not-are_rows.true))
-
 pub children_of-children-requires : goal.children_of-children-requires
 children_of-children-requires c = (roomy c.are_rows.ensures c.if-not-are_rows.false).cabinets
-
-pub returns-then-not-children : goal.returns-then-not-children
-returns-then-not-children c =
-    let k = c.args.records in
-    let u = c.args.choices.now in
-    no_key k u (λ e. clash (sym (c.children_of-children.ensures.tested ∙ both_r (has_rows k.services k.cabinets all_sums (length u) (length u)) _ (both_r (leb 1 k.cabinets) _ e)) ∙ c.if-not-children.true))
 
 pub sets_of-size-requires : goal.sets_of-size-requires
 sets_of-size-requires c = (roomy c.are_rows.ensures c.if-not-are_rows.false).services
@@ -52,9 +34,6 @@ weigh_sets-requires c =
     let P = roomy c.are_rows.ensures c.if-not-are_rows.false in
     let s = few c.sets_of-size.ensures P.services in
     (P.services, s, omega (arith, s))
-
-pub overflow_sub-size : goal.overflow_sub-size
-overflow_sub-size c = omega (arith, c.sets_of-size.ensures, pow_pos c.args.records.services)
 
 pub read_key-requires : goal.read_key-requires
 read_key-requires c =

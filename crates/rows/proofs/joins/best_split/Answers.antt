@@ -8,7 +8,7 @@ use Rattle.subsets.specs.declared.Best.{Best}
 use Rattle.subsets.specs.Inner.Folds.{figures, scan, best_split, by_key, after, is_tie}
 use Rattle.subsets.specs.declared.Weighed.{Weighed}
 use Rattle.subsets.specs.Figures.{weighing}
-use Rattle.subsets.proofs.Sets.{Sub, sub_and, sub_le}
+use Rattle.subsets.proofs.Sets.{Sub, sub_and}
 use Rattle.subsets.proofs.Figures.{counted_le}
 use Rattle.subsets.proofs.Folds.{try_at, scan_at, scan_next, scan_end, tried_sub}
 use Rattle.rows.specs.Keys.{key_in}
@@ -37,12 +37,6 @@ module _ (lower : ℕ → ℕ → Bool) (row child link : ℕ → ℕ) (x a : �
 
 pub loop-a-init : goal.loop-a-init
 loop-a-init c = (omega arith, and_self _, and_zero_l c.args.x, omega arith, unfold best_split in refl)
-
-pub wins_tie-won-requires : goal.wins_tie-won-requires
-wins_tie-won-requires c =
-    let pre = c.requires in
-    let inv = c.loop-a.invariant in
-    record { places = (omega arith, sub_le _ _ inv.2, omega arith, omega arith, omega arith); small = pre.small }
 
 pub better-best-requires : goal.better-best-requires
 better-best-requires c =

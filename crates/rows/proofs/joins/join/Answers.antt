@@ -1,16 +1,15 @@
 -- `join` meets its contract, from the last set down.
-use Prim.Native.Nat.{ℕ, suc, ◌+◌, ◌-◌, ◌*◌, ◌≤◌, ◌<◌}
+use Prim.Native.Nat.{ℕ, suc, ◌+◌, ◌-◌, ◌≤◌, ◌<◌}
 use native.Mathlib.Omega.{arith}
 use mathlib.Core.Path.{◌≡◌, subst}
 use mathlib.Core.List.{List}
-use borrow.Author.Rules.{rules}
-use lib.ListN.{length, set, length-set}
+use lib.ListN.{length, set}
 use Rattle.subsets.specs.declared.Best.{Best}
 use Rattle.subsets.specs.declared.Key.{Key}
 use Rattle.subsets.specs.Inner.Folds.{figures, split_key}
 use Rattle.rows.specs.Keys.{key_in}
 use Rattle.rows.specs.Joins.{best_of}
-use Rattle.rows.proofs.Joining.{Partly, begin, step, all, counted_le, chosen_le}
+use Rattle.rows.proofs.Joining.{Partly, step, all, counted_le, chosen_le}
 use Rattle.rows.proofs.Paired.{put_key}
 use Rattle.rows.proofs.joins.join.Goals as goal
 
@@ -25,19 +24,6 @@ turn : (row child link keys kid : List ℕ) (x : ℕ) (row₁ choice₁ keys₁ 
 turn row child link keys kid x row₁ choice₁ keys₁ count P z h b e v f =
     let q : x ≡ suc (x - 1) = omega arith in
     step row child link keys kid (x - 1) row₁ choice₁ keys₁ count (subst (λ (n : ℕ). Partly row child link keys kid n row₁ choice₁ keys₁ count) q P) b v (omega arith) e f
-
-pub loop-x-init : goal.loop-x-init
-loop-x-init c = (omega arith, begin _ _ _ _ _ _ (search rules) (search rules))
-
-pub best_split-best-requires : goal.best_split-best-requires
-best_split-best-requires c =
-    let pre = c.requires in
-    let P = c.loop-x.invariant.1 in
-    record {
-      figures = (omega (arith, P.row_length), omega arith, omega arith, omega arith);
-      places = (omega (arith, P.key_length), omega arith);
-      small = (λ i h. rw (P.key_below i (omega arith)) (pre.small.0 i (omega arith)), λ i h. pre.small.1 i (omega arith));
-    }
 
 pub overflow_sub-x-in-loop-x : goal.overflow_sub-x-in-loop-x
 overflow_sub-x-in-loop-x c = stays_le _ _ _ _ _ _ _ c.best_split-best.ensures
@@ -54,12 +40,6 @@ split_key-key-requires c =
 
 pub overflow_cast-choice : goal.overflow_cast-choice
 overflow_cast-choice c = omega (arith, stays_le _ _ _ _ _ _ _ c.best_split-best.ensures)
-
-pub bounds-keys-x : goal.bounds-keys-x
-bounds-keys-x c = omega (arith, c.loop-x.invariant.1.key_length)
-
-pub bounds-keys-x-in-loop-x : goal.bounds-keys-x-in-loop-x
-bounds-keys-x-in-loop-x c = omega (arith, c.loop-x.invariant.1.key_length, length-set c.loop-x.keys (2 * (c.loop-x.x - 1)) c.split_key-key.result.high)
 
 pub overflow_add-count : goal.overflow_add-count
 overflow_add-count c =
