@@ -1,13 +1,13 @@
 -- Both tables reworked: whatever they held, the rows off the path stay and only what the check accepts is handed out; and tables kept of an instance that
 -- differs in one cabinet become those of the sheet.
-use Rattle.std.proofs.Common.{◌≡◌, ℕ, ◌^◌, ◌<◌, ◌≤◌, Bool, true, false, cond, eqb, ltb, List, ◌++◌, length, get_or, take, drop, sym, refl, ap, ◌∙◌, subst, ap₂, inl, inr, append-nil, arith, length-append, drop_of_length-le, take_at, lt-ltb, eq-eqb, eqb-true}
+use Rattle.std.proofs.Common.{◌≡◌, ℕ, ◌^◌, ◌<◌, ◌≤◌, Bool, true, false, cond, eqb, ltb, List, ◌++◌, length, get_or, take, drop, sym, refl, ap, ◌∙◌, subst, inl, inr, append-nil, arith, length-append, drop_of_length-le, take_at, lt-ltb, eq-eqb, eqb-true}
 use Rattle.finite.proofs.Booleans.{both}
 use Rattle.subsets.specs.Tree.{under}
 use Rattle.subsets.specs.Costs.{Cost, none, some}
 use Rattle.subsets.specs.Inner.Masks.{full}
 use Rattle.subsets.specs.Figures.{is_cost}
 use Rattle.subsets.specs.Inner.Local.{Differ}
-use Rattle.sheet.specs.Instance.{Instance, WellFormed, instance}
+use Rattle.sheet.specs.Instance.{Instance, WellFormed}
 use Rattle.sheet.specs.Refusals.{refusal}
 use Rattle.sheet.proofs.Promises.{well_formed}
 use Rattle.embedding.specs.Plan.{cheapest}
@@ -16,19 +16,18 @@ use Rattle.embedding.specs.First.{first_plan, places}
 use Rattle.embedding.specs.Inner.Charge.{net}
 use Rattle.records.specs.Told.{told}
 use Rattle.records.specs.declared.Records.{Records}
-use Rattle.std.specs.Sound.{sound}
-use Rattle.std.specs.Tables.{netted, updatable, read_answer, counts_in, Holding, Updates}
-use Rattle.std.specs.declared.Kept as kept
-use Rattle.std.specs.declared.Kept.TheVariants as kepts
-use Rattle.std.proofs.Sounding.{good}
-use Rattle.std.proofs.Deciding.{updates_keeps}
+use Rattle.solver.specs.Sound.{sound}
+use Rattle.solver.specs.Tables.{updatable, read_answer, counts_in, Holding, Updates}
+use Rattle.solver.specs.declared.Kept as kept
+use Rattle.solver.specs.declared.Kept.TheVariants as kepts
+use Rattle.solver.proofs.Sounding.{good}
+use Rattle.solver.proofs.Deciding.{updates_keeps}
 use Rattle.checker.specs.Check.{checked}
 use Rattle.checker.specs.declared.Checked.{Checked}
 use Rattle.checker.specs.declared.Checked.TheVariants as checks
 use Rattle.planner.specs.Answers as answers
 use Rattle.planner.specs.Answers.{entries, solved}
 use Rattle.planner.specs.Lent.{OutputAfter}
-use Rattle.planner.specs.Kept as tables
 use Rattle.planner.specs.Kept.{kept_costs, kept_choices, Kept}
 use Rattle.planner.specs.Inner.Decided.{planned_of}
 use Rattle.planner.specs.Inner.Tables.{entry, cost_entry, choice_entry}

@@ -1,5 +1,5 @@
 -- A table after a call: what it then has in the span, and that all else stays.
-use Rattle.std.proofs.Common.{◌≡◌, ℕ, ◌+◌, ◌-◌, ◌<◌, ◌≤◌, Bool, true, false, cond, ◌⊎◌, List, ◌++◌, length, get_or, take, drop, sym, refl, ap, ◌∙◌, inl, inr, arith, length-append, length-drop}
+use Rattle.std.proofs.Common.{◌≡◌, ℕ, ◌+◌, ◌<◌, ◌≤◌, Bool, true, false, cond, ◌⊎◌, List, ◌++◌, length, get_or, take, drop, sym, refl, ap, ◌∙◌, inl, inr, arith, length-append, length-drop}
 use Rattle.finite.proofs.Middles.{mid_before, mid_after}
 use Rattle.sheet.specs.Instance.{Instance}
 use Rattle.lending.specs.Spans.{within, replaced}

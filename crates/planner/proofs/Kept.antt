@@ -31,19 +31,19 @@ use Rattle.embedding.proofs.Theorems.{weighed_rows}
 use Rattle.rows.specs.Cabinets as cabinets
 use Rattle.rows.specs.Cabinets.{field, parent_of, own_of, link_of, falling}
 use Rattle.rows.specs.Keys.{base}
-use Rattle.std.specs.Sound as sounds
-use Rattle.std.specs.Sound.{amounts, between, sound}
-use Rattle.std.specs.Sums as sums
-use Rattle.std.specs.Sums.{demand_in, sum_out, flow_out}
+use Rattle.solver.specs.Sound as sounds
+use Rattle.solver.specs.Sound.{amounts, between, sound}
+use Rattle.solver.specs.Sums as sums
+use Rattle.solver.specs.Sums.{demand_in, sum_out, flow_out}
 use Rattle.rows.specs.Charges.{own_cost, link_cost}
-use Rattle.std.specs.Tables as tables
-use Rattle.std.specs.Tables.{netted, decided, least, fitting, OutputOf, Keeps, Solves}
+use Rattle.solver.specs.Tables as tables
+use Rattle.solver.specs.Tables.{netted, decided, least, fitting, OutputOf, Keeps, Solves}
 use Rattle.records.specs.Flows.{frames_in}
 use Rattle.records.specs.declared.flows.Flow.{Flow}
 use Rattle.records.specs.declared.Records.{Records}
-use Rattle.std.specs.declared.Kept.{Kept}
-use Rattle.std.specs.declared.Kept.TheVariants as kept
-use Rattle.std.proofs.Sounding.{Good, good, field_in}
+use Rattle.solver.specs.declared.Kept.{Kept}
+use Rattle.solver.specs.declared.Kept.TheVariants as kept
+use Rattle.solver.proofs.Sounding.{Good, good, field_in}
 use Rattle.planner.specs.Answers.{entries, solved}
 use Rattle.planner.specs.Lent.{OutputAfter}
 use Rattle.planner.specs.Kept.{kept_costs, kept_choices}

@@ -44,6 +44,7 @@ fn sets_of(r: usize) -> usize
 }
 
 // The planner's answer for the core's. The core refuses no records of a sheet.
+#[tactic(auto, unfolding(sheet::specs::Refusals::refusal))]
 fn answer_of(kept: Kept) -> Planned
     ensures { result ≡ planned_of kept }
 {

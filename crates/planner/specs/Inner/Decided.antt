@@ -1,7 +1,7 @@
 -- The planner's answer for the core's.
 use Rattle.sheet.specs.Refusals.{refusal}
-use Rattle.std.specs.declared.Kept.{Kept}
-use Rattle.std.specs.declared.Kept.TheVariants as kept
+use Rattle.solver.specs.declared.Kept.{Kept}
+use Rattle.solver.specs.declared.Kept.TheVariants as kept
 use Rattle.planner.specs.declared.Planned.{Planned}
 use Rattle.planner.specs.declared.Planned.TheVariants.{Plan, Refused}
 

@@ -2,7 +2,7 @@
 use Rattle.std.specs.Prelude.{◌≡◌, ℕ, ◌*◌, ◌^◌}
 use mathlib.Core.Path.{sym, ap, ◌∙◌}
 use Rattle.solver.proofs.Sounding.{good}
-use Rattle.solver.proofs.Deciding.{fit, fits_again, decides, placed, filled}
+use Rattle.solver.proofs.Deciding.{fit, decides, placed, filled}
 use Rattle.solver.proofs.keep_fitting.Goals as goal
 
 pub sets_of-size-requires : goal.sets_of-size-requires
@@ -18,9 +18,6 @@ fill-count-requires c =
       costs = F.costs_size ∙ ap (λ (n : ℕ). c.args.records.cabinets * n) (sym e);
       choices = F.choices_size ∙ ap (λ (n : ℕ). c.args.records.cabinets * n) (sym e);
     }
-
-pub decide-requires : goal.decide-requires
-decide-requires c = fits_again c.args.records _ _ _ c.requires _ _ c.fill-count.auto.costs c.fill-count.auto.choices
 
 pub returns : goal.returns
 returns c =

@@ -1,12 +1,9 @@
 -- `solve` meets its contract: it plans where everything fits, and both tables are cleared.
 use Rattle.std.specs.Prelude.{ℕ, replicate}
-use mathlib.Core.Path.{refl, sym, ap, ◌∙◌}
+use mathlib.Core.Path.{sym, ap, ◌∙◌}
 use Rattle.finite.proofs.Booleans.{clash}
 use Rattle.solver.proofs.Deciding.{fit}
 use Rattle.solver.proofs.solve.Goals as goal
-
-pub keep_fitting-answer-requires : goal.keep_fitting-answer-requires
-keep_fitting-answer-requires c = sym c.fits.ensures ∙ c.if-fits.true
 
 pub returns-then-fits : goal.returns-then-fits
 returns-then-fits c =
@@ -21,13 +18,4 @@ returns-then-fits c =
         c.clear_choices.ensures ∙ ap (λ (n : ℕ). replicate n 0) (c.keep_fitting-answer.auto.choices ∙ T.choices_size),
       );
       left = λ e. clash (sym p ∙ e);
-    }
-
-pub returns-else-fits : goal.returns-else-fits
-returns-else-fits c =
-    record {
-      answer = λ e. clash (sym e ∙ sym c.fits.ensures ∙ c.if-fits.false);
-      output = λ e. clash (sym e ∙ sym c.fits.ensures ∙ c.if-fits.false);
-      tables = λ e. clash (sym e ∙ sym c.fits.ensures ∙ c.if-fits.false);
-      left = λ e. (refl, refl, refl, refl);
     }

@@ -3,22 +3,16 @@ use Rattle.std.specs.Prelude.{ℕ, ◌-◌, ◌*◌, ◌^◌, ltb, get_or}
 use native.Mathlib.Omega.{arith}
 use mathlib.Core.Path.{refl, sym, ap, ◌∙◌, subst}
 use lib.Pow.{pow_pos}
-use borrow.Author.Tests.{lt-ltb, le-ltb}
+use borrow.Author.Tests.{lt-ltb}
 use Rattle.finite.specs.Below.{only, sum_below}
-use Rattle.finite.proofs.Booleans.{clash, both, both_l, both_r}
+use Rattle.finite.proofs.Booleans.{clash, both}
 use Rattle.rows.specs.Rebuilds.{entry}
 use Rattle.solver.specs.Sums.{SumsOf}
 use Rattle.solver.specs.Tables.{read_answer}
 use Rattle.solver.proofs.Sounding.{good, sets_le}
 use Rattle.solver.proofs.Filling.{all_tests, updated}
-use Rattle.solver.proofs.Deciding.{fit, fits_again, unfit}
+use Rattle.solver.proofs.Deciding.{fit}
 use Rattle.solver.proofs.update.Goals as goal
-
-pub returns-then-records-e : goal.returns-then-records-e
-returns-then-records-e c = unfit c.args.records c.args.e _ _ _ (λ p. clash (sym (both_l (ltb c.args.e c.args.records.cabinets) _ p) ∙ le-ltb c.args.e c.args.records.cabinets c.if-records-e.true))
-
-pub returns-then-not-fits : goal.returns-then-not-fits
-returns-then-not-fits c = unfit c.args.records c.args.e _ _ _ (λ p. clash (sym (both_r (ltb c.args.e c.args.records.cabinets) _ p) ∙ sym c.fits.ensures ∙ c.if-not-fits.true))
 
 pub sets_of-size-requires : goal.sets_of-size-requires
 sets_of-size-requires c = (good _ (fit _ _ _ _ (sym c.fits.ensures ∙ c.if-not-fits.false)).is_sound).services
@@ -34,9 +28,6 @@ count_joins-count-requires c =
     let G = good _ F.is_sound in
     let e = c.sets_of-size.ensures in
     (omega (arith, e, pow_pos c.args.records.services), G.some_cabinet, G.cabinets, omega (arith, c.rebuild_path.auto.choices, F.choices_size, ap (λ (n : ℕ). c.args.records.cabinets * n) e))
-
-pub decide-requires : goal.decide-requires
-decide-requires c = fits_again c.args.records _ _ _ (sym c.fits.ensures ∙ c.if-not-fits.false) _ _ c.rebuild_path.auto.costs c.rebuild_path.auto.choices
 
 pub returns : goal.returns
 returns c =
