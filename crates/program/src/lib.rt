@@ -5,7 +5,9 @@ pub mod tidying; // tidying.rt: the program that writes tidy copies
 
 // The numbers of the standard streams.
 pub(crate) const STDIN: i32 = 0;
+
 pub(crate) const STDOUT: i32 = 1;
+
 pub(crate) const STDERR: i32 = 2;
 
 // Says whether all of the text was written. If it was not, a line on standard error says so too.
@@ -17,9 +19,6 @@ pub fn run() -> bool {
     if io::write_all(STDOUT, &text[..n]) {
         return true;
     }
-    io::write_all(
-        STDERR,
-        b"plan: standard output could not be written\n",
-    );
+    io::write_all(STDERR, b"plan: standard output could not be written\n");
     false
 }

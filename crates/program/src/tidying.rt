@@ -14,10 +14,7 @@ fn give(copy: &[u8]) -> bool {
     if io::write_all(STDOUT, copy) {
         return true;
     }
-    io::write_all(
-        STDERR,
-        b"tidy: standard output could not be written\n",
-    );
+    io::write_all(STDERR, b"tidy: standard output could not be written\n");
     false
 }
 
