@@ -9,7 +9,7 @@ use Rattle.subsets.specs.Inner.Encoded.{figure}
 use Rattle.subsets.specs.Inner.Net.{Falls, Net}
 use Rattle.subsets.specs.Inner.Rows.{child, row_at, choice_at}
 use Rattle.subsets.specs.Inner.Count.{pairs, flagged, joins}
-use Rattle.subsets.specs.Inner.Folds.{earlier, plus, split_key, by_key, best_split, counted_below, Holds}
+use Rattle.subsets.specs.Inner.Folds.{earlier, plus, split_key, by_key, best_split, Holds}
 use Rattle.subsets.specs.Inner.Keys.{ordered, key_parts}
 use Rattle.subsets.specs.Inner.Kept.{kept_choice}
 use Rattle.subsets.specs.Inner.Rebuild.{Source, rebuilt_row, rebuilt_key, rebuilt_choice, join_count, rebuilt_entry, rebuilt_count}

@@ -11,7 +11,6 @@ use Rattle.sheet.specs.Refusals.{first_applying, refusal}
 use Rattle.sheet.specs.Reading.{rules, answered}
 use Rattle.sheet.proofs.Ladder.{pass, stop}
 use Rattle.sheet.proofs.Passed.{pairs_inside}
-use native.Mathlib.Omega.{arith}
 use Rattle.sheet.proofs.read_pairs.Lts as lts
 use Rattle.sheet.proofs.read_pairs.Reads as reads
 use Rattle.sheet.proofs.read_pairs.Tie as tie

@@ -1,5 +1,5 @@
 -- `subsets::is_tie` meets its contract.
-use Rattle.std.proofs.Common.{◌≡◌, Bool, true, false, ◌&&◌, refl, ◌∙◌, rules}
+use Rattle.std.proofs.Common.{◌≡◌, Bool, true, false, ◌&&◌, refl, ◌∙◌}
 use Rattle.subsets.specs.Figures.{is_cost}
 use Rattle.subsets.specs.Inner.Folds.{may_tie}
 use Rattle.subsets.proofs.Ties.{tie_sum}

@@ -1,5 +1,4 @@
 -- `subsets::may_tie` meets its contract.
-use Rattle.std.proofs.Common.{rules}
 use Rattle.subsets.specs.Inner.Folds.{may_tie}
 use Rattle.subsets.proofs.may_tie.Goals as goal
 

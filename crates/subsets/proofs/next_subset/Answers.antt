@@ -1,5 +1,5 @@
 -- `subsets::next_subset` meets its contract: below the empty set there is only the empty set.
-use Rattle.std.proofs.Common.{ℕ, ◌-◌, sym, ap, ◌∙◌, rules}
+use Rattle.std.proofs.Common.{ℕ, ◌-◌, sym, ap, ◌∙◌}
 use lib.Bits.{bit_and, and_zero_l}
 use Rattle.subsets.proofs.next_subset.Goals as goal
 

@@ -1,5 +1,5 @@
 -- `subsets::power_of_three` meets its contract: after i turns the number is 3^i, and where its triple would not fit no later power does.
-use Rattle.std.proofs.Common.{◌≡◌, ℕ, ◌+◌, ◌-◌, ◌^◌, ◌<◌, ◌≤◌, sym, refl, ap, ◌∙◌, arith, rules}
+use Rattle.std.proofs.Common.{◌≡◌, ℕ, ◌+◌, ◌^◌, sym, refl, ap, ◌∙◌, arith}
 use Rattle.subsets.proofs.Powers.{next_power, power_fits, power_past}
 use Rattle.subsets.proofs.power_of_three.Goals as goal
 

@@ -1,5 +1,5 @@
 -- `subsets::weigh` meets its contract: a sum of three costs does not wrap, and no other sum is used.
-use Rattle.std.proofs.Common.{◌≡◌, ℕ, ◌+◌, ◌%◌, ◌^◌, ◌≤◌, min, Bool, true, false, cond, ◌&&◌, refl, ap, ◌∙◌, arith, rules, leb-true}
+use Rattle.std.proofs.Common.{◌≡◌, ℕ, ◌+◌, ◌%◌, ◌^◌, ◌≤◌, min, Bool, true, false, cond, ◌&&◌, refl, ap, ◌∙◌, arith, leb-true}
 use Rattle.finite.specs.Below as below
 use mir.Val.{bool_byte}
 use Rattle.subsets.specs.Figures.{limit, is_cost, weighing, lesser_figure}

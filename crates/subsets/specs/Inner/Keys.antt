@@ -1,6 +1,6 @@
 -- The order of placings, and a net whose least charge is that of the first of the cheapest placings.
 -- A placing's key is one number that keeps the order; each charge n becomes n × k, with the keys below k added to it.
-use Rattle.std.specs.Prelude.{ℕ, ◌-◌, ◌*◌, ◌/◌, ◌%◌, ◌^◌, Bool, cond, nat_lt}
+use Rattle.std.specs.Prelude.{ℕ, ◌-◌, ◌*◌, ◌/◌, ◌%◌, ◌^◌, cond, nat_lt}
 use Rattle.finite.specs.Below.{only, sum_below}
 use Rattle.subsets.specs.Sets.{has}
 use Rattle.subsets.specs.Costs.{Cost, none, some}

@@ -9,7 +9,6 @@ use Rattle.sheet.specs.Records.{cabinet_record}
 use Rattle.sheet.specs.declared.CabinetRecord.TheVariants as cabinets
 use borrow.Author.Rules.{part_to_end}
 use Rattle.sheet.proofs.There.{there_fits}
-use borrow.Author.Rules.{rules}
 use Rattle.sheet.proofs.Sheet.cabinet.Goals as goal
 
 pub slice_bounds-read_cabinet-count : goal.slice_bounds-read_cabinet-count

@@ -9,7 +9,6 @@ use Rattle.sheet.specs.Records.{service_record}
 use Rattle.sheet.specs.declared.ServiceRecord.TheVariants as services
 use borrow.Author.Rules.{part_to_end}
 use Rattle.sheet.proofs.There.{there_fits}
-use borrow.Author.Rules.{rules}
 use Rattle.sheet.proofs.Sheet.service.Goals as goal
 
 pub slice_bounds-read_service-count : goal.slice_bounds-read_service-count

@@ -9,7 +9,6 @@ use Rattle.sheet.specs.Records.{stream_record}
 use Rattle.sheet.specs.declared.StreamRecord.TheVariants as streams
 use borrow.Author.Rules.{part_to_end}
 use Rattle.sheet.proofs.There.{there_fits}
-use borrow.Author.Rules.{rules}
 use Rattle.sheet.proofs.Sheet.stream.Goals as goal
 
 pub slice_bounds-read_stream-count : goal.slice_bounds-read_stream-count

@@ -1,4 +1,4 @@
-use Rattle.std.proofs.Common.{rules, arith}
+use Rattle.std.proofs.Common.{arith}
 use Rattle.std.proofs.lemmas.Grind.{common_steps}
 use Rattle.sheet.specs.Conditions.{some_block_outside}
 use Rattle.sheet.proofs.blocks.any_outside.Goals as goal

@@ -2,7 +2,6 @@
 use mathlib.Core.Path.{sym, ◌∙◌}
 use borrow.Author.Tests.{eq-eqb, ne_eqb}
 use Rattle.sheet.proofs.Sharing.{share_first, share_second}
-use borrow.Author.Rules.{rules}
 use Rattle.sheet.proofs.blocks.do_share.Goals as goal
 
 pub returns-then-n-ne0 : goal.returns-then-n-ne0

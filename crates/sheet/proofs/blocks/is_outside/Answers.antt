@@ -1,7 +1,6 @@
 -- `is_outside` meets its contract.
 use borrow.Author.Tests.{lt-ltb, le-ltb}
 use Rattle.sheet.specs.Conditions.{outside}
-use borrow.Author.Rules.{rules}
 use Rattle.sheet.proofs.blocks.is_outside.Goals as goal
 
 pub returns-then-at-lt-HEADER : goal.returns-then-at-lt-HEADER

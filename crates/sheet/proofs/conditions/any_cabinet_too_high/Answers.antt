@@ -1,11 +1,7 @@
 -- `any_cabinet_too_high` meets its contract, cabinet by cabinet.
-use Prim.Native.Nat.{◌≤◌, ◌-◌}
-use mathlib.Core.Path.{◌≡◌, sym, ap, ◌∙◌}
-use mathlib.Core.Bool.{false}
+use mathlib.Core.Path.{sym, ap, ◌∙◌}
 use native.Mathlib.Omega.{arith}
-use Rattle.finite.specs.Below.{any_below}
 use Rattle.finite.proofs.Tests.{any_in, any_start, any_next, any_end}
-use Rattle.sheet.specs.Layout.{cabinet_in}
 use Rattle.sheet.specs.Conditions.{cabinet_too_high}
 use Rattle.sheet.proofs.conditions.any_cabinet_too_high.Goals as goal
 

@@ -1,11 +1,7 @@
 -- `any_ends_wrong` meets its contract, stream by stream.
-use Prim.Native.Nat.{◌≤◌, ◌-◌}
-use mathlib.Core.Path.{◌≡◌, sym, ap, ◌∙◌}
-use mathlib.Core.Bool.{false}
+use mathlib.Core.Path.{sym, ap, ◌∙◌}
 use native.Mathlib.Omega.{arith}
-use Rattle.finite.specs.Below.{any_below}
 use Rattle.finite.proofs.Tests.{any_in, any_start, any_next, any_end}
-use Rattle.sheet.specs.Layout.{stream_in}
 use Rattle.sheet.specs.Conditions.{wrong_ends}
 use Rattle.sheet.proofs.conditions.any_ends_wrong.Goals as goal
 

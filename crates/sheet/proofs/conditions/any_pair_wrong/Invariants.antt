@@ -1,10 +1,8 @@
 -- `any_pair_wrong` meets its contract, pair by pair.
 use Prim.Native.Nat.{◌≤◌, ◌-◌}
-use mathlib.Core.Path.{◌≡◌, sym, ap, ◌∙◌}
+use mathlib.Core.Path.{◌≡◌}
 use mathlib.Core.Bool.{false}
-use native.Mathlib.Omega.{arith}
 use Rattle.finite.specs.Below.{any_below}
-use Rattle.finite.proofs.Tests.{any_in, any_start, any_next, any_end}
 use Rattle.sheet.specs.Layout.{pair_in}
 use Rattle.sheet.specs.Conditions.{wrong_pair}
 use Rattle.sheet.proofs.conditions.any_pair_wrong.Given as goal

@@ -1,13 +1,9 @@
 -- `any_service_too_high` meets its contract, service by service.
 use Rattle.sheet.specs.declared.Service.{Service}
-use Prim.Native.Nat.{◌≤◌, ◌-◌}
-use mathlib.Core.Path.{◌≡◌, sym, ap, ◌∙◌}
-use mathlib.Core.Bool.{false}
+use mathlib.Core.Path.{sym, ap, ◌∙◌}
 use native.Mathlib.Omega.{arith}
 use borrow.Author.Tests.{lt-ltb, le-ltb}
-use Rattle.finite.specs.Below.{any_below}
 use Rattle.finite.proofs.Tests.{any_in, any_start, any_next, any_end}
-use Rattle.sheet.specs.Layout.{service_in}
 use Rattle.sheet.specs.Conditions.{too_high}
 use Rattle.sheet.proofs.conditions.any_service_too_high.Goals as goal
 

@@ -1,5 +1,5 @@
 -- `is_amount_too_high` answers whether an amount of a service, of a cabinet or of a stream is too high: each block's test, in the part that starts there.
-use Rattle.std.proofs.Common.{◌≡◌, ℕ, List, ap, ◌∙◌, arith}
+use Rattle.std.proofs.Common.{ℕ, List, ap, ◌∙◌, arith}
 use Rattle.std.proofs.lemmas.Grind.{common_steps}
 use borrow.Author.Rules.{part_to_end}
 use Rattle.finite.specs.Below.{any_below}

@@ -8,7 +8,6 @@ use Rattle.sheet.specs.Layout.{stream_in}
 use Rattle.sheet.specs.Conditions.{wrong_ends}
 use Rattle.sheet.specs.Layout.{stream}
 use Rattle.sheet.specs.Conditions.{some_ends_wrong}
-use borrow.Author.Rules.{rules}
 use Rattle.sheet.proofs.conditions.is_end_wrong.Goals as goal
 
 pub returns : goal.returns

@@ -8,7 +8,6 @@ use Rattle.sheet.specs.Layout.{pair_in}
 use Rattle.sheet.specs.Conditions.{wrong_pair}
 use Rattle.sheet.specs.Layout.{pair}
 use Rattle.sheet.specs.Conditions.{some_pair_wrong}
-use native.Mathlib.Omega.{arith}
 use Rattle.sheet.proofs.conditions.is_pair_wrong.Goals as goal
 
 pub returns : goal.returns

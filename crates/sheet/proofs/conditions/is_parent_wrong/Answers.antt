@@ -8,7 +8,6 @@ use Rattle.sheet.specs.Layout.{cabinet_in}
 use Rattle.sheet.specs.Conditions.{wrong_parent}
 use Rattle.sheet.specs.Layout.{cabinet}
 use Rattle.sheet.specs.Conditions.{some_parent_wrong}
-use borrow.Author.Rules.{rules}
 use Rattle.sheet.proofs.conditions.is_parent_wrong.Goals as goal
 
 pub returns : goal.returns

@@ -7,7 +7,6 @@ use Rattle.sheet.specs.Layout.{cabinet_in}
 use Rattle.sheet.specs.Conditions.{linked}
 use Rattle.sheet.specs.Layout.{cabinet}
 use Rattle.sheet.specs.Conditions.{root_linked}
-use borrow.Author.Rules.{rules}
 use Rattle.sheet.proofs.conditions.is_root_linked.Goals as goal
 
 pub returns : goal.returns

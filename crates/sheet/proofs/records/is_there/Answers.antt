@@ -2,7 +2,6 @@
 use borrow.Author.Tests.{lt-ltb, le-ltb}
 use Rattle.sheet.specs.Records.{there}
 use Rattle.sheet.proofs.There.{past_end, ends_within}
-use borrow.Author.Rules.{rules}
 use Rattle.sheet.proofs.records.is_there.Goals as goal
 
 pub returns-then-count-i : goal.returns-then-count-i

@@ -1,5 +1,4 @@
 -- `read_cabinet` meets its contract, field by field.
-use native.Mathlib.Omega.{arith}
 use Rattle.sheet.specs.Layout.{cabinet_in}
 use Rattle.sheet.proofs.records.read_cabinet.Goals as goal
 

@@ -1,5 +1,4 @@
 -- `read_header` meets its contract, field by field.
-use native.Mathlib.Omega.{arith}
 use Rattle.sheet.specs.Layout.{header}
 use Rattle.sheet.proofs.records.read_header.Goals as goal
 

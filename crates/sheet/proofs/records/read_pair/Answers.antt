@@ -1,5 +1,4 @@
 -- `read_pair` meets its contract, field by field.
-use native.Mathlib.Omega.{arith}
 use Rattle.sheet.specs.Layout.{pair_in}
 use Rattle.sheet.proofs.records.read_pair.Goals as goal
 

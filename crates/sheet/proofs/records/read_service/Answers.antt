@@ -1,5 +1,4 @@
 -- `read_service` meets its contract.
-use native.Mathlib.Omega.{arith}
 use Rattle.sheet.specs.Layout.{service_in}
 use Rattle.sheet.proofs.records.read_service.Goals as goal
 

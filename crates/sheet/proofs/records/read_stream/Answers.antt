@@ -1,5 +1,4 @@
 -- `read_stream` meets its contract, field by field.
-use native.Mathlib.Omega.{arith}
 use Rattle.sheet.specs.Layout.{stream_in}
 use Rattle.sheet.proofs.records.read_stream.Goals as goal
 
