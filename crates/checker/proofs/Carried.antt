@@ -1,4 +1,4 @@
--- The load of a link as `link_loads` gives it: on the road of a well_formed sheet it is what the streams that run along the link take of its capacity.
+-- The load of a link as `link_loads` gives it: on the road of a well-formed sheet it is what the streams that run along the link take of its capacity.
 use Prim.Native.Nat.{ℕ, ◌≤◌, ◌<◌}
 use mathlib.Core.Path.{◌≡◌, refl, sym, ap₂, ◌∙◌}
 use mathlib.Core.Bool.{true, false, ◌&&◌}
@@ -32,7 +32,7 @@ module _ (I : Instance) where
         leb-true I.q max_streams (both_r ((ltb 0 c && ltb c I.s) && leb I.s max_cabinets) (leb I.q max_streams) h),
       )
 
-  -- every cabinet of a well_formed instance but the root has a link
+  -- every cabinet of a well-formed instance but the root has a link
   pub has_its_link : WellFormed I → (c : ℕ) → 0 < c → c < I.s → has_link I c ≡ true
   unfolding has_link
   has_its_link W c z h =
@@ -50,7 +50,7 @@ module _ (I : Instance) where
     all_loads h =
         rw h (ap₂ (λ (m n : ℕ). record { up = m; down = n }) (sym (leaving_weight I (λ i. is_under I c (π i)))) (sym (entering_weight I (λ i. is_under I c (π i)))))
 
-    -- on the road of a well_formed instance, under a plan whose places are all cabinets: what the streams take of each direction's capacity
+    -- on the road of a well-formed instance, under a plan whose places are all cabinets: what the streams take of each direction's capacity
     pub loads_carried : WellFormed I → in_range I π ≡ true → 0 < c → c < I.s → loads I π c ≡ record { up = carried I π (up c); down = carried I π (down c) }
     unfolding loads only leaving entering
     loads_carried W range z h =

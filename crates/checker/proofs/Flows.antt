@@ -67,7 +67,7 @@ module _ (I : Instance) (π : ℕ → ℕ) where
     pub down_told : crosses marks (π b) (π a) ≡ falls c j
     down_told = ap₂ (λ (x y : Bool). x && not y) (M.mark (π b) ∙ ap (λ (k : ℕ). is_under I c (π k)) f) (M.mark (π a) ∙ ap (λ (k : ℕ). is_under I c (π k)) e)
 
-  -- all streams of a well_formed instance: what leaves the services under c in the tree of the road, and what enters them
+  -- all streams of a well-formed instance: what leaves the services under c in the tree of the road, and what enters them
   module _ (W : WellFormed I) (f : ℕ → ℕ) (c : ℕ) where
     pub up_all : sum_of (rises c) f I.q ≡ leaving I f (λ i. under I.parent c (π i))
     unfolding leaving

@@ -43,7 +43,7 @@ module _ (I : Instance) where
       go true e = omega (arith, lower_is d (ltb-true (I.parent d) d e), ltb-true (I.parent d) d e)
       go false e = omega (arith, lower_root d e)
 
-  -- in a well_formed instance this is the tree of the road
+  -- in a well-formed instance this is the tree of the road
   pub is_under_tree : WellFormed I → (c d : ℕ) → is_under I c d ≡ under I.parent c d
   unfolding under
   is_under_tree W c d = climb_ext (lower_parent I) I.parent (λ e z. lower_is e (W.parents e z)) d c d

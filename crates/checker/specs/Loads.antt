@@ -13,7 +13,7 @@ module _ (I : Instance) where
   unfoldable pub has_link : ℕ → Bool
   has_link c = ((ltb 0 c && ltb c I.s) && leb I.s max_cabinets) && leb I.q max_streams
 
-  -- the parent of d where its number is smaller than d, as it is in every well_formed instance; else the root
+  -- the parent of d where its number is smaller than d, as it is in every well-formed instance; else the root
   unfoldable pub lower_parent : ℕ → ℕ
   lower_parent d = only (ltb (I.parent d) d) (I.parent d)
 

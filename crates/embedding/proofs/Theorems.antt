@@ -46,7 +46,7 @@ pub sums_suffice : (P : Input) (m : ℕ → ℕ) (p : ℕ → List ℕ) →
     ((e : ℕ) → e < P.substrate.edges → AtMost P.amounts (edge_load P m p e) (P.edge_capacity e)) → Feasible P m p
 sums_suffice = feasible.sums_suffice
 
--- On the road of a well_formed sheet:
+-- On the road of a well-formed sheet:
 module _ (I : Instance) (W : WellFormed I) where
   -- The road is a graph: both ends of every edge are cabinets.
   pub graph : (e : ℕ) → e < (tree I).edges → ((tree I).source e < I.s) × ((tree I).target e < I.s)
@@ -167,7 +167,7 @@ rehung_itself = surveys.rehung_itself
 pub rehung_on : (I J K : Instance) → WellFormed I → (σ τ : ℕ → ℕ) → Rehung I J σ → Rehung J K τ → Rehung I K (λ c. τ (σ c))
 rehung_on = surveys.rehung_on
 
--- On the roads of two well_formed sheets, the second of them the first rehung and renumbered:
+-- On the roads of two well-formed sheets, the second of them the first rehung and renumbered:
 module _ (I J : Instance) (W : WellFormed I) (X : WellFormed J) (σ : ℕ → ℕ) (R : Rehung I J σ) where
   -- The first is the second rehung, by numbers that undo the others.
   pub rehung_back : (τ : ℕ → ℕ) × Rehung J I τ × ((c : ℕ) → c < I.s → τ (σ c) ≡ c)

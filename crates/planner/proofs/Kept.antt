@@ -68,7 +68,7 @@ module _ (k : Records) (passes : sound k ≡ true) where
   G : Good k
   G = good k passes
 
-  -- They tell of a well_formed instance.
+  -- They tell of a well-formed instance.
   pub told_well : WellFormed (told k)
   unfolding told
   told_well = record {
@@ -193,7 +193,7 @@ module _ (k : Records) (passes : sound k ≡ true) where
       cost_is none q = absurd (let z : kept.Plan c n ≡ kept.NoPlan (counts.weighed (netted k)) = e ∙ ap (λ (f : Cost). decided f (counts.weighed (netted k))) q in let y : ◌≡◌ {A = ℕ} 0 1 = cc in omega arith)
       cost_is (some m) q = q ∙ ap some (let z : kept.Plan c n ≡ kept.Plan m (counts.weighed (netted k)) = e ∙ ap (λ (f : Cost). decided f (counts.weighed (netted k))) q in let y : m ≡ c = cc in y)
 
--- ---- the tests are no more than what a well_formed instance has
+-- ---- the tests are no more than what a well-formed instance has
 
 amounts_in : (n : ℕ) (l : List ℕ) → ((i : ℕ) → field n l i ≤ max_amount) → amounts n l ≡ true
 unfolding sounds.amounts
@@ -211,7 +211,7 @@ between_in : (r from to : ℕ) → from < r → to < r → (from ≡ to → ⊥)
 unfolding sounds.between
 between_in r from to h l n = rw (lt-ltb from r h, lt-ltb to r l, ne_eqb from to n) refl
 
--- Records that tell of a well_formed instance pass.
+-- Records that tell of a well-formed instance pass.
 pub told_sound : (k : Records) → WellFormed (told k) → sound k ≡ true
 unfolding told sounds.sound sounds.fields_sound sounds.cabinets_sound sounds.rooted sounds.running
 told_sound k W =
@@ -256,7 +256,7 @@ after_plan k s o o' lo same (kept.Plan c n) e H =
 after_plan k s o o' lo same (kept.NoPlan n) e H = H
 after_plan k s o o' lo same kept.Unfit e H = H
 
--- A call on a well_formed instance's records, with memory of the size that it needs: what it answers, writes, and keeps or clears.
+-- A call on a well-formed instance's records, with memory of the size that it needs: what it answers, writes, and keeps or clears.
 pub record Left-of (keeps : Bool) (k : Records) (o o' t' u' : List ℕ) (a : Kept) : Type 0 where
   pub answer : planned_of a ≡ solved (cheapest (told k)) (weighed (told k))
   pub output : OutputAfter (told k) (planned_of a) o o'

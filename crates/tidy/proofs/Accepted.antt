@@ -1,4 +1,4 @@
--- The reader accepts the tidy copy of every well_formed instance whose root says that it has no parent: none of its refusals applies.
+-- The reader accepts the tidy copy of every well-formed instance whose root says that it has no parent: none of its refusals applies.
 use Prim.Native.Nat.{ℕ, zero, suc, ◌+◌, ◌*◌, ◌≤◌, ◌<◌}
 use native.Mathlib.Omega.{arith}
 use mathlib.Core.Path.{◌≡◌, refl, sym, ap, ap₂, ◌∙◌}

@@ -1,4 +1,4 @@
--- What the code relies on: a plan for the records of a well_formed instance, and marks.
+-- What the code relies on: a plan for the records of a well-formed instance, and marks.
 use Rattle.std.specs.Prelude.{ℕ, ◌≡◌, Bool, true, false, List, length, get_or}
 use Rattle.sheet.specs.Limits.{max_cabinets}
 use Rattle.sheet.specs.Instance.{Instance, WellFormed}
@@ -7,7 +7,7 @@ use Rattle.records.specs.Told.{told}
 use Rattle.embedding.specs.Plan.{place, in_range}
 use Rattle.checker.specs.Loads.{is_under}
 
--- the records tell of a well_formed instance, the plan has a place for each of its services, and each place is a cabinet
+-- the records tell of a well-formed instance, the plan has a place for each of its services, and each place is a cabinet
 pub record Placed (records : Records) (plan : List ℕ) : Type 0 where
   pub well_formed : WellFormed (told records)
   pub places : length plan ≡ (told records).r

@@ -9,7 +9,7 @@ use Rattle.tidy.specs.Answers.{written, answered, tidy_answer, output_after}
 use Rattle.tidy.specs.Inner.Limited.{Limited}
 use Rattle.tidy.proofs.tidy.Goals as goal
 
--- the counts of a well_formed instance
+-- the counts of a well-formed instance
 limited : (I J : Instance) → J ≡ I → WellFormed I → Limited J.r J.s J.q
 limited I J e W = rw e (record { services = W.services; cabinets = W.cabinets; streams = W.streams })
 
