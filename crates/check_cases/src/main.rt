@@ -1,5 +1,5 @@
 // Prints what the check answers on the measured roads, on sums above 65,535, on long roads, a chain and a star of 200 cabinets with 100 streams, with
-// barred pairs, and where framing fills a link.
+// barred pairs, and where framing fills a link. By the kit's io, so that no handle has to go through every case.
 #![tactic(auto)]
 
 ghost use Rattle.std.specs.Prelude.{◌≡◌, ◌+◌, ◌<◌, length};
@@ -8,7 +8,6 @@ mod bars; // bars.rt: road M with barred pairs
 mod framing; // framing.rt: road M with streams whose framing fills a link
 mod joints; // joints.rt: road M with services of demand 0 and with joints
 
-use checker::Checked;
 use sheet::Refusal;
 
 const ROAD_M: [u16; 34] = [
@@ -59,7 +58,7 @@ fn print_group(refusal: Refusal) {
 
 fn print_refusal(refusal: Refusal) {
     io::write_all(1, b"refused ");
-    io::print_decimal(1, refusal.number() as u64);
+    io::print_decimal(1, u64::from(refusal.number()));
     print_group(refusal);
 }
 
@@ -71,14 +70,14 @@ fn print_cost(cost: u64) {
 
 fn report(bytes: &[u8], plan: &[u16]) {
     match checker::check(bytes, plan) {
-        Checked::Accepted(cost) => print_cost(cost),
-        Checked::Refused(refusal) => print_refusal(refusal),
+        Ok(cost) => print_cost(cost),
+        Err(refusal) => print_refusal(refusal),
     }
 }
 
 fn put_byte(bytes: &mut [u8], at: usize, byte: u8) {
-    if at < bytes.len() {
-        bytes[at] = byte;
+    if let Some(place) = bytes.get_mut(at) {
+        *place = byte;
     }
 }
 
@@ -87,22 +86,17 @@ fn put(bytes: &mut [u8], at: usize, word: usize) -> usize
     requires { at < 4096 }
     ensures { result ≡ at + 2 }
 {
-    put_byte(bytes, at, (word % 256) as u8);
-    put_byte(bytes, at + 1, (word / 256 % 256) as u8);
+    let [low, high] = ((word % 65536) as u16).to_le_bytes();
+    put_byte(bytes, at, low);
+    put_byte(bytes, at + 1, high);
     at + 2
-}
-
-fn wide(word: u16) -> usize {
-    word as usize
 }
 
 fn put_all(bytes: &mut [u8], words: &[u16])
     requires { length words.now < 2000 }
 {
-    let mut i = 0;
-    while i < words.len() {
-        put(bytes, 2 * i, wide(words[i]));
-        i += 1;
+    for (i, word) in words.iter().enumerate() {
+        put(bytes, 2 * i, usize::from(*word));
     }
 }
 
@@ -172,15 +166,22 @@ fn sums() {
     report(&dear, &alone);
 }
 
-// The parent of cabinet c in a star or a chain.
-fn parent(star: bool, c: usize) -> usize {
+// How the cabinets of a long road hang: all from the root, or each from the one before it.
+#[derive(Clone, Copy)]
+enum Shape {
+    Star,
+    Chain,
+}
+
+// The parent of cabinet c.
+fn parent(shape: Shape, c: usize) -> usize {
     if c == 0 {
         return 65535;
     }
-    if star {
-        return 0;
+    match shape {
+        Shape::Star => 0,
+        Shape::Chain => c - 1,
     }
-    c - 1
 }
 
 // n, but 0 for the root, which has no link.
@@ -188,11 +189,11 @@ fn linked(c: usize, n: usize) -> usize {
     if c == 0 { 0 } else { n }
 }
 
-fn put_cabinet(bytes: &mut [u8], star: bool, c: usize, up_capacity: usize)
+fn put_cabinet(bytes: &mut [u8], shape: Shape, c: usize, up_capacity: usize)
     requires { c < 200 }
 {
     let mut at = 36 + 14 * c;
-    at = put(bytes, at, parent(star, c));
+    at = put(bytes, at, parent(shape, c));
     at = put(bytes, at, 10000);
     at = put(bytes, at, c + 1);
     at = put(bytes, at, linked(c, up_capacity));
@@ -214,9 +215,9 @@ fn capacity(c: usize, narrow: usize, capacity: usize) -> usize {
     if c == narrow { capacity } else { 10000 }
 }
 
-fn put_cabinets(bytes: &mut [u8], star: bool, narrow: usize, up_capacity: usize) {
+fn put_cabinets(bytes: &mut [u8], shape: Shape, narrow: usize, up_capacity: usize) {
     for c in 0..200 {
-        put_cabinet(bytes, star, c, capacity(c, narrow, up_capacity));
+        put_cabinet(bytes, shape, c, capacity(c, narrow, up_capacity));
     }
 }
 
@@ -231,10 +232,10 @@ const LONG_HEADER: [u16; 18] = [
 ];
 
 // A road of 200 cabinets, with the up capacity of one of them given.
-fn long_road(star: bool, narrow: usize, up_capacity: usize) {
+fn long_road(shape: Shape, narrow: usize, up_capacity: usize) {
     let mut bytes = io::buffer();
     put_all(&mut bytes, &LONG_HEADER);
-    put_cabinets(&mut bytes, star, narrow, up_capacity);
+    put_cabinets(&mut bytes, shape, narrow, up_capacity);
     put_streams(&mut bytes);
     cut(&bytes, 3436, &SPREAD);
 }
@@ -251,12 +252,12 @@ fn main() {
     pairs();
     road_z();
     sums();
-    long_road(false, 100, 10000);
-    long_road(false, 100, CHAIN_LOAD);
-    long_road(false, 100, CHAIN_LOAD - 1);
-    long_road(true, 5, 10000);
-    long_road(true, 5, STAR_LOAD);
-    long_road(true, 5, STAR_LOAD - 1);
+    long_road(Shape::Chain, 100, 10000);
+    long_road(Shape::Chain, 100, CHAIN_LOAD);
+    long_road(Shape::Chain, 100, CHAIN_LOAD - 1);
+    long_road(Shape::Star, 5, 10000);
+    long_road(Shape::Star, 5, STAR_LOAD);
+    long_road(Shape::Star, 5, STAR_LOAD - 1);
     bars::run();
     framing::run();
     joints::run();

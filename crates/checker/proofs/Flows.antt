@@ -1,5 +1,5 @@
 -- What runs through a link under a plan, stream by stream.
-use Prim.Native.Nat.{ℕ, ◌+◌, ◌*◌, ◌≤◌, ◌<◌}
+use Prim.Native.Nat.{ℕ, ◌+◌, ◌<◌}
 use native.Mathlib.Omega.{arith}
 use mathlib.Core.Path.{◌≡◌, sym, ap, ap₂, ◌∙◌}
 use mathlib.Core.Bool.{Bool, ◌&&◌, not}
@@ -15,13 +15,11 @@ use Rattle.embedding.specs.Limits.{frames}
 use Rattle.embedding.specs.Inner.Charge.{leaving, entering}
 use Rattle.checker.specs.Loads.{is_under}
 use Rattle.checker.specs.Inner.Records.{Marked}
-use Rattle.checker.specs.Inner.Flows.{crosses, joined}
+use Rattle.checker.specs.Inner.Flows.{Small, joined, with_stream}
+use Rattle.checker.specs.declared.streams.Flows.{Flows}
 use Rattle.checker.proofs.Marks.{is_under_tree}
 
--- a flow of j streams, each with a demand of 16 bits
-abbrev pub Small : ℕ → Flow → Type 0
-Small j f = (f.demand ≤ j * 65536) × (f.frames ≤ j)
-
+-- a small flow with one stream more
 pub joined_small : (j : ℕ) (f : Flow) (t : Bool) (d : ℕ) → d < 65536 → Small j f → Small (j + 1) (joined f t d)
 joined_small j f t d h s = (omega (arith, only_le t d), omega (arith, only_le t (frames_in d), only_le (ltb 0 d) 1))
 
@@ -48,24 +46,33 @@ module _ (I : Instance) (π : ℕ → ℕ) where
   abbrev pub down_flow : ℕ → ℕ → Flow
   down_flow c n = flow_of (falls c) n
 
-  -- no stream yet
-  pub none_yet : (test : ℕ → Bool) → record { demand = 0; frames = 0 } ≡ flow_of test 0
-  none_yet test = ap₂ (λ (d f : ℕ). record { demand = d; frames = f }) (sum_start (λ j. only (test j) (I.load j))) (sum_start (λ j. only (test j) (frames I j)))
+  -- through both directions of it
+  abbrev pub flows_of : ℕ → ℕ → Flows
+  flows_of c n = record { up = up_flow c n; down = down_flow c n }
 
-  -- one more: whether it passes is t, its demand is d
-  pub one_more : (test : ℕ → Bool) (j d : ℕ) (t : Bool) (f g : Flow) → t ≡ test j → d ≡ I.load j → f ≡ flow_of test j → g ≡ joined f t d → g ≡ flow_of test (j + 1)
+  -- no stream yet
+  none : (test : ℕ → Bool) → record { demand = 0; frames = 0 } ≡ flow_of test 0
+  none test = ap₂ (λ (d f : ℕ). record { demand = d; frames = f }) (sum_start (λ j. only (test j) (I.load j))) (sum_start (λ j. only (test j) (frames I j)))
+
+  pub none_yet : (c : ℕ) → record { up = record { demand = 0; frames = 0 }; down = record { demand = 0; frames = 0 } } ≡ flows_of c 0
+  none_yet c = ap₂ (λ (u d : Flow). record { up = u; down = d }) (none (rises c)) (none (falls c))
+
+  -- one more, where it passes
+  next : (test : ℕ → Bool) (j : ℕ) (t : Bool) → t ≡ test j → joined (flow_of test j) t (I.load j) ≡ flow_of test (j + 1)
   unfolding frames
-  one_more test j d t f g e k u q =
-      q ∙ ap₂ (λ (h : Flow) (n : ℕ). joined h t n) u k ∙ ap (λ (s : Bool). joined (flow_of test j) s (I.load j)) e
+  next test j t e =
+      ap (λ (s : Bool). joined (flow_of test j) s (I.load j)) e
       ∙ sym (ap₂ (λ (m n : ℕ). record { demand = m; frames = n }) (sum_next j (λ j. only (test j) (I.load j))) (sum_next j (λ j. only (test j) (frames I j))))
 
-  -- the marks tell which streams those are, from a to b
-  module _ {c : ℕ} {marks : List Bool} (M : Marked I c marks) {j a b : ℕ} (e : a ≡ I.from j) (f : b ≡ I.to j) where
-    pub up_told : crosses marks (π a) (π b) ≡ rises c j
-    up_told = ap₂ (λ (x y : Bool). x && not y) (M.mark (π a) ∙ ap (λ (k : ℕ). is_under I c (π k)) e) (M.mark (π b) ∙ ap (λ (k : ℕ). is_under I c (π k)) f)
-
-    pub down_told : crosses marks (π b) (π a) ≡ falls c j
-    down_told = ap₂ (λ (x y : Bool). x && not y) (M.mark (π b) ∙ ap (λ (k : ℕ). is_under I c (π k)) f) (M.mark (π a) ∙ ap (λ (k : ℕ). is_under I c (π k)) e)
+  -- the marks tell whether it does
+  pub one_more : {c : ℕ} {marks : List Bool} {f : Flows} (j : ℕ) → Marked I c marks → f ≡ flows_of c j → with_stream I π marks f j ≡ flows_of c (j + 1)
+  one_more {c} {marks} j M e =
+      let a = M.mark (π (I.from j)) in
+      let b = M.mark (π (I.to j)) in
+      ap (λ (f : Flows). with_stream I π marks f j) e
+      ∙ ap₂ (λ (u d : Flow). record { up = u; down = d })
+      (next (rises c) j _ (ap₂ (λ (x y : Bool). x && not y) a b))
+      (next (falls c) j _ (ap₂ (λ (x y : Bool). x && not y) b a))
 
   -- all streams of a well-formed instance: what leaves the services under c in the tree of the road, and what enters them
   module _ (W : WellFormed I) (f : ℕ → ℕ) (c : ℕ) where

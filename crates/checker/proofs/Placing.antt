@@ -1,19 +1,32 @@
--- The test of the cabinets' room, one after the other, and their part of the cost.
-use Prim.Native.Nat.{ℕ, ◌+◌, ◌*◌, ◌^◌, ◌≤◌, ◌<◌}
-use native.Mathlib.Nat.{mul-le-mul}
+-- The tests of a plan's places and of the cabinets' room, and the cabinets' part of the cost.
+use Prim.Native.Nat.{ℕ, zero, suc, ◌+◌, ◌*◌, ◌^◌, ◌≤◌, ◌<◌}
 use native.Mathlib.Omega.{arith}
-use mathlib.Core.Path.{◌≡◌, sym, ap, ◌∙◌}
-use mathlib.Core.Bool.{Bool, true, false}
+use mathlib.Core.Path.{◌≡◌, refl, sym, ap, ◌∙◌}
+use mathlib.Core.Bool.{Bool, true, ◌&&◌, and-true, and_assoc}
+use mathlib.Core.List.{List, [], ◌∷◌}
 use lib.Dec.{eqb, leb}
-use borrow.Author.Tests.{le-leb, lt-leb}
+use lib.ListN.{length}
+use Rattle.std.specs.List.{list_all}
 use Rattle.finite.specs.Below.{only, sum_below, all_below}
 use Rattle.finite.proofs.Sums.{sum_next, sum_part}
-use Rattle.finite.proofs.Tests.{all_next, all_end, all_stop}
 use Rattle.sheet.specs.Instance.{Instance, WellFormed}
-use Rattle.embedding.specs.Plan.{demand_of, in_range, rooms_keep, cabinets_cost, plan_cost}
-use Rattle.embedding.proofs.Reckoning.{demand_sum, rooms_by_demand, cabinets_cost_sum}
+use Rattle.embedding.specs.Plan.{place, demand_of, in_range, cabinets_cost, plan_cost}
+use Rattle.embedding.proofs.Reckoning.{demand_sum, cabinets_cost_sum}
 use Rattle.embedding.proofs.Bound.{demand_le}
 use Rattle.embedding.proofs.Theorems.{cost_bound}
+
+-- a test of the numbers below n + 1 asks first of 0
+first_of : (n : ℕ) (p : ℕ → Bool) → all_below (suc n) p ≡ (p 0 && all_below n (λ i. p (suc i)))
+unfolding all_below
+first_of zero p = sym (and-true (p 0))
+first_of (suc n) p = ap (λ (b : Bool). b && p (suc n)) (first_of n p) ∙ and_assoc (p 0) (all_below n (λ i. p (suc i))) (p (suc n))
+
+-- a test of all places of a plan, in their order
+pub all_of_places : (p : ℕ → Bool) (plan : List ℕ) → list_all p plan ≡ all_below (length plan) (λ i. p (place plan i))
+unfolding all_below
+all_of_places p [] = refl
+all_of_places p (k ∷ plan) =
+    ap (λ (b : Bool). p k && b) (all_of_places p plan) ∙ sym (first_of (length plan) (λ i. p (place (k ∷ plan) i)))
 
 module _ (I : Instance) (π : ℕ → ℕ) where
   -- the demand that the plan puts on c
@@ -21,24 +34,12 @@ module _ (I : Instance) (π : ℕ → ℕ) where
   placed c = demand_of I (λ i. eqb (π i) c)
 
   -- c is not overfull
-  abbrev kept : ℕ → Bool
+  abbrev pub kept : ℕ → Bool
   kept c = leb (placed c) (I.capacity c)
 
-  -- no cabinet below n is overfull
-  abbrev pub KeptBelow : ℕ → Type 0
-  KeptBelow n = all_below n kept ≡ true
-
-  -- one that is overfull decides
-  pub overfull : (c n : ℕ) → c < I.s → n ≡ placed c → I.capacity c < n → false ≡ rooms_keep I π
-  overfull c n h e l = all_stop I.s kept c h (lt-leb (placed c) (I.capacity c) (omega arith)) ∙ sym (rooms_by_demand I π)
-
-  -- one more that is not
-  pub kept_next : (c n : ℕ) → KeptBelow c → n ≡ placed c → n ≤ I.capacity c → KeptBelow (c + 1)
-  kept_next c n h e l = all_next c kept h (le-leb (placed c) (I.capacity c) (omega arith))
-
-  -- all of them
-  pub kept_all : (c : ℕ) → c ≤ I.s → I.s ≤ c → KeptBelow c → true ≡ rooms_keep I π
-  kept_all c h k b = all_end I.s c kept h k b ∙ sym (rooms_by_demand I π)
+  -- what service i puts on c
+  abbrev pub put_on : ℕ → ℕ → ℕ
+  put_on c i = only (eqb (π i) c) (I.demand i)
 
   -- what the first n services cost
   abbrev pub charged : ℕ → ℕ
@@ -54,13 +55,8 @@ module _ (I : Instance) (π : ℕ → ℕ) where
 
   module _ (W : WellFormed I) where
     -- the demand that the plan puts on c, of the first n services
-    pub placed_le : (c n : ℕ) → n ≤ I.r → sum_below n (λ i. only (eqb (π i) c) (I.demand i)) ≤ 100000
-    placed_le c n h =
-        omega (arith, demand_le I W (λ i. eqb (π i) c), demand_sum I (λ i. eqb (π i) c), sum_part n I.r (λ i. only (eqb (π i) c) (I.demand i)) h)
-
-    -- what a service costs
-    pub fee_le : (i c : ℕ) → I.demand i * I.price c ≤ 100000000
-    fee_le i c = omega (arith, mul-le-mul (W.demands i) (W.prices c))
+    pub placed_le : (c n : ℕ) → n ≤ I.r → sum_below n (put_on c) ≤ 100000
+    placed_le c n h = omega (arith, demand_le I W (λ i. eqb (π i) c), demand_sum I (λ i. eqb (π i) c), sum_part n I.r (put_on c) h)
 
     -- what the first n services cost
     pub charged_low : in_range I π ≡ true → (n : ℕ) → n ≤ I.r → charged n < 10 ^ 15

@@ -1,124 +1,66 @@
-// What a plan puts on cabinets: refusals 14, 20 and 15, and the cabinets' part of the cost.
-ghost use Rattle.std.specs.Prelude.{◌≡◌, eqb, ltb, length};
-ghost use Rattle.finite.specs.Below.{all_below};
+// What a plan puts on cabinets: refusals 20 and 15, and the cabinets' part of the cost.
+ghost use Rattle.std.specs.Prelude.{◌≡◌, eqb};
 ghost use Rattle.records.specs.Told.{told};
 ghost use Rattle.embedding.specs.Plan.{place, demand_of, bars_keep, rooms_keep, joints_keep, cabinets_keep, cabinets_cost};
-ghost use Rattle.checker.specs.Inner.Records.{Placed};
 
-use crate::numbers::{index, wide};
-use records::{Records, field};
+use crate::places::{Placing, place_of};
+use records::field;
 use subsets::only_if;
 
-// The cabinet that a plan gives service i; 0 where it has no place for it.
-pub(crate) fn place_of(plan: &[u16], i: usize) -> usize
-    ensures { result ≡ place plan.now i }
-{
-    if plan.len() <= i {
-        return 0;
+impl Placing<'_> {
+    // No service sits on a cabinet that it is barred from.
+    pub(crate) fn are_bars_kept(&self) -> bool
+        ensures { result ≡ bars_keep (told self.now.records.now) (place self.now.plan.now) }
+    {
+        (0..self.records.services).all(|i| !self.records.is_barred(i, place_of(self.plan, i)))
     }
-    index(plan[i])
-}
 
-// Every cabinet number of the plan is below the number of cabinets.
-pub(crate) fn is_in_range(plan: &[u16], cabinets: usize) -> bool
-    ensures { result ≡ all_below (length plan.now) (λ i. ltb (place plan.now i) cabinets) }
-{
-    let mut i = 0;
-    while i < plan.len() {
-        if cabinets <= place_of(plan, i) {
-            return false;
+    // The demand that the plan puts on cabinet c.
+    fn placed_demand(&self, c: usize) -> u64
+        ensures { result ≡ demand_of (told self.now.records.now) (λ i. eqb (place self.now.plan.now i) c) }
+    {
+        let mut sum = 0;
+        for i in 0..self.records.services {
+            sum += only_if(
+                place_of(self.plan, i) == c,
+                u64::from(field(&self.records.demand, self.records.services, i)),
+            );
         }
-        i += 1;
+        sum
     }
-    true
-}
 
-// No service sits on a cabinet that it is barred from.
-pub(crate) fn are_bars_kept(records: Records, plan: &[u16]) -> bool
-    ensures { result ≡ bars_keep (told records) (place plan.now) }
-{
-    let services = records.services;
-    let mut i = 0;
-    while i < services {
-        if records.is_barred(i, place_of(plan, i)) {
-            return false;
+    // No cabinet is overfull.
+    fn are_rooms_kept(&self) -> bool
+        ensures { result ≡ rooms_keep (told self.now.records.now) (place self.now.plan.now) }
+    {
+        let records = self.records;
+        (0..records.cabinets).all(|c| self.placed_demand(c) <= records.cabinet(c).capacity)
+    }
+
+    // No service sits on a joint.
+    fn are_joints_kept(&self) -> bool
+        ensures { result ≡ joints_keep (told self.now.records.now) (place self.now.plan.now) }
+    {
+        (0..self.records.services).all(|i| !self.records.is_joint(place_of(self.plan, i)))
+    }
+
+    // No cabinet is overfull, and none that is a joint has a service.
+    #[tactic(auto, unfolding(embedding::specs::Plan::cabinets_keep))]
+    pub(crate) fn are_cabinets_kept(&self) -> bool
+        ensures { result ≡ cabinets_keep (told self.now.records.now) (place self.now.plan.now) }
+    {
+        self.are_rooms_kept() && self.are_joints_kept()
+    }
+
+    // What the cabinets charge for the services: each one's demand times the price of its cabinet.
+    pub(crate) fn cabinets_cost(&self) -> u64
+        ensures { result ≡ cabinets_cost (told self.now.records.now) (place self.now.plan.now) }
+    {
+        let mut cost = 0;
+        for i in 0..self.records.services {
+            cost += self.records.service(i).demand
+                * self.records.cabinet(place_of(self.plan, i)).price;
         }
-        i += 1;
+        cost
     }
-    true
-}
-
-// The demand that the plan puts on cabinet c.
-fn placed_demand(records: Records, plan: &[u16], c: usize) -> u64
-    requires { Placed records plan.now }
-    ensures { result ≡ demand_of (told records) (λ i. eqb (place plan.now i) c) }
-{
-    let demand = records.demand;
-    let mut sum = 0;
-    let mut i = 0;
-    while i < records.services {
-        sum += only_if(
-            place_of(plan, i) == c,
-            wide(field(&demand, records.services, i)),
-        );
-        i += 1;
-    }
-    sum
-}
-
-// No cabinet is overfull.
-fn are_rooms_kept(records: Records, plan: &[u16]) -> bool
-    requires { Placed records plan.now }
-    ensures { result ≡ rooms_keep (told records) (place plan.now) }
-{
-    let cabinets = records.cabinets;
-    let mut c = 0;
-    while c < cabinets {
-        let k = records.cabinet(c);
-        if k.capacity < placed_demand(records, plan, c) {
-            return false;
-        }
-        c += 1;
-    }
-    true
-}
-
-// No service sits on a joint.
-fn are_joints_kept(records: Records, plan: &[u16]) -> bool
-    ensures { result ≡ joints_keep (told records) (place plan.now) }
-{
-    let services = records.services;
-    let mut i = 0;
-    while i < services {
-        if records.is_joint(place_of(plan, i)) {
-            return false;
-        }
-        i += 1;
-    }
-    true
-}
-
-// No cabinet is overfull, and none that is a joint has a service.
-pub(crate) fn are_cabinets_kept(records: Records, plan: &[u16]) -> bool
-    requires { Placed records plan.now }
-    ensures { result ≡ cabinets_keep (told records) (place plan.now) }
-{
-    are_rooms_kept(records, plan) && are_joints_kept(records, plan)
-}
-
-// What the cabinets charge for the services: each one's demand times the price of its cabinet.
-pub(crate) fn cabinets_cost(records: Records, plan: &[u16]) -> u64
-    requires { Placed records plan.now }
-    ensures { result ≡ cabinets_cost (told records) (place plan.now) }
-{
-    let services = records.services;
-    let mut cost = 0;
-    let mut i = 0;
-    while i < services {
-        let service = records.service(i);
-        let k = records.cabinet(place_of(plan, i));
-        cost += service.demand * k.price;
-        i += 1;
-    }
-    cost
 }

@@ -7,44 +7,34 @@ ghost use Rattle.checker.specs.Check.{checked};
 mod cabinets; // cabinets.rt: what the plan puts on cabinets, and what they charge
 mod links; // links.rt: the walk over the links, and what they charge
 pub mod loads; // loads.rt: what the plan's streams put on one link
-mod numbers; // numbers.rt: numbers widened
+mod places; // places.rt: the places of a plan, and a plan beside the records that it fits
+mod streams; // streams.rt: what runs through one link, stream by stream
 
-use cabinets::{are_bars_kept, are_cabinets_kept, cabinets_cost, is_in_range};
-use links::walk_links;
-use sheet::{Reading, Refusal};
+use places::{Placing, is_in_range};
+use sheet::Refusal;
 
-// What the check answers: the plan's cost, or a refusal.
-#[derive(Clone, Copy)]
-pub enum Checked {
-    Accepted(u64),
-    Refused(Refusal),
-}
-
-// Checks a plan, one cabinet number a service: accepted exactly when no refusal applies, else refused with the first that applies.
-pub fn check(bytes: &[u8], plan: &[u16]) -> Checked
+// Checks a plan, one cabinet number a service: the plan's cost exactly when no refusal applies, else the first refusal that applies.
+pub fn check(bytes: &[u8], plan: &[u16]) -> Result<u64, Refusal>
     ensures { result ≡ checked bytes.now plan.now }
 {
-    let loaded = records::load(bytes);
-    let answer = loaded.answer;
-    let Reading::Accepted(sheet) = answer else {
-        let Reading::Refused(refusal) = answer else {
-            // Not reached: a reading is one of the two.
-            return Checked::Refused(Refusal::SheetWriter(1));
-        };
-        return Checked::Refused(refusal);
+    let answer = records::load(bytes);
+    // Let else, and no `?`: 01 has check and planner take the reader's answer apart so.
+    let Ok(loaded) = answer else {
+        return Err(answer.unwrap_err());
     };
-    if plan.len() != sheet.services() {
-        return Checked::Refused(Refusal::PlanWriter(13));
+    let records = &loaded.records;
+    if plan.len() != records.services {
+        return Err(Refusal::WRONG_PLACES);
     }
-    if !is_in_range(plan, sheet.cabinets()) {
-        return Checked::Refused(Refusal::PlanWriter(14));
+    if !is_in_range(plan, records.cabinets) {
+        return Err(Refusal::NO_SUCH_CABINET);
     }
-    let records = loaded.records;
-    if !are_bars_kept(records, plan) {
-        return Checked::Refused(Refusal::PlanWriter(20));
+    let placing = Placing { records, plan };
+    if !placing.are_bars_kept() {
+        return Err(Refusal::BARRED_PLACE);
     }
-    if !are_cabinets_kept(records, plan) {
-        return Checked::Refused(Refusal::PlanWriter(15));
+    if !placing.are_cabinets_kept() {
+        return Err(Refusal::OVERFULL_CABINET);
     }
-    walk_links(records, plan, cabinets_cost(records, plan))
+    placing.walk_links()
 }

@@ -1,140 +1,90 @@
 // Reads a planning sheet from standard input and prints its counts and records, or the refusal.
 #![tactic(auto)]
 
+use sheet::Sheet;
+use std::io::Error;
+
 // The most bytes that are taken as a sheet.
 const LONGEST: usize = 4096;
 
-fn wide(n: u16) -> u64 {
-    n as u64
+// The refusal of more bytes than these: the program's own, which is in no group.
+const TOO_LONG: u16 = 17;
+
+fn print_counts(rt: &impl Print, sheet: Sheet) -> Result<(), Error> {
+    println!(rt; "services {}", sheet.services())?;
+    println!(rt; "cabinets {}", sheet.cabinets())?;
+    println!(rt; "streams {}", sheet.streams())?;
+    println!(rt; "barred pairs {}", sheet.pairs())
 }
 
-fn number(n: u64) {
-    io::write_all(1, b" ");
-    io::print_decimal(1, n);
-}
-
-fn heading(name: &[u8], i: usize) {
-    io::write_all(1, name);
-    number(i as u64);
-    io::write_all(1, b":");
-}
-
-fn end_line() {
-    io::write_all(1, b"\n");
-}
-
-fn service(sheet: sheet::Sheet, bytes: &[u8], i: usize) {
-    let sheet::ServiceRecord::Given(k) = sheet.service(bytes, i) else {
-        return;
-    };
-    heading(b"service", i);
-    number(k.demand);
-    end_line();
-}
-
-fn cabinet(sheet: sheet::Sheet, bytes: &[u8], c: usize) {
-    let sheet::CabinetRecord::Given(k) = sheet.cabinet(bytes, c) else {
-        return;
-    };
-    heading(b"cabinet", c);
-    number(k.parent as u64);
-    number(k.capacity);
-    number(k.price);
-    number(k.up_capacity);
-    number(k.up_price);
-    number(k.down_capacity);
-    number(k.down_price);
-    end_line();
-}
-
-fn stream(sheet: sheet::Sheet, bytes: &[u8], j: usize) {
-    let sheet::StreamRecord::Given(t) = sheet.stream(bytes, j) else {
-        return;
-    };
-    heading(b"stream", j);
-    number(t.from as u64);
-    number(t.to as u64);
-    number(t.demand);
-    end_line();
-}
-
-fn pair(sheet: sheet::Sheet, bytes: &[u8], n: usize) {
-    let sheet::PairRecord::Given(p) = sheet.pair(bytes, n) else {
-        return;
-    };
-    heading(b"barred", n);
-    number(p.service as u64);
-    number(p.cabinet as u64);
-    end_line();
-}
-
-fn counts(sheet: sheet::Sheet) {
-    io::write_all(1, b"services");
-    number(sheet.services() as u64);
-    end_line();
-    io::write_all(1, b"cabinets");
-    number(sheet.cabinets() as u64);
-    end_line();
-    io::write_all(1, b"streams");
-    number(sheet.streams() as u64);
-    end_line();
-    io::write_all(1, b"barred pairs");
-    number(sheet.pairs() as u64);
-    end_line();
-}
-
-fn services(sheet: sheet::Sheet, bytes: &[u8]) {
+fn print_services(rt: &impl Print, sheet: Sheet, bytes: &[u8]) -> Result<(), Error> {
     for i in 0..sheet.services() {
-        service(sheet, bytes, i);
+        if let Some(k) = sheet.service(bytes, i) {
+            println!(rt; "service {i}: {}", k.demand)?;
+        }
     }
+    Ok(())
 }
 
-fn cabinets(sheet: sheet::Sheet, bytes: &[u8]) {
+fn print_cabinets(rt: &impl Print, sheet: Sheet, bytes: &[u8]) -> Result<(), Error> {
     for c in 0..sheet.cabinets() {
-        cabinet(sheet, bytes, c);
+        if let Some(k) = sheet.cabinet(bytes, c) {
+            println!(rt;
+                "cabinet {c}: {} {} {} {} {} {} {}",
+                k.parent,
+                k.capacity,
+                k.price,
+                k.up_capacity,
+                k.up_price,
+                k.down_capacity,
+                k.down_price,
+            )?;
+        }
     }
+    Ok(())
 }
 
-fn streams(sheet: sheet::Sheet, bytes: &[u8]) {
+fn print_streams(rt: &impl Print, sheet: Sheet, bytes: &[u8]) -> Result<(), Error> {
     for j in 0..sheet.streams() {
-        stream(sheet, bytes, j);
+        if let Some(t) = sheet.stream(bytes, j) {
+            println!(rt; "stream {j}: {} {} {}", t.from, t.to, t.demand)?;
+        }
     }
+    Ok(())
 }
 
-fn pairs(sheet: sheet::Sheet, bytes: &[u8]) {
+fn print_pairs(rt: &impl Print, sheet: Sheet, bytes: &[u8]) -> Result<(), Error> {
     for n in 0..sheet.pairs() {
-        pair(sheet, bytes, n);
+        if let Some(p) = sheet.pair(bytes, n) {
+            println!(rt; "barred {n}: {} {}", p.service, p.cabinet)?;
+        }
     }
+    Ok(())
 }
 
-fn refused(n: u64) {
-    io::write_all(1, b"refused");
-    number(n);
-    end_line();
+// The sheet, or the number of the refusal.
+fn read(bytes: &[u8]) -> Result<Sheet, u16> {
+    if LONGEST < bytes.len() {
+        return Err(TOO_LONG);
+    }
+    sheet::read(bytes).map_err(|refusal| refusal.number())
 }
 
-fn describe(bytes: &[u8]) {
-    let reading = sheet::read(bytes);
-    let sheet::Reading::Accepted(sheet) = reading else {
-        let sheet::Reading::Refused(f) = reading else {
-            return;
-        };
-        refused(wide(f.number()));
-        return;
+fn describe(rt: &impl Print, bytes: &[u8]) -> Result<(), Error> {
+    let sheet = match read(bytes) {
+        Ok(sheet) => sheet,
+        Err(number) => return println!(rt; "refused {number}"),
     };
-    counts(sheet);
-    services(sheet, bytes);
-    cabinets(sheet, bytes);
-    streams(sheet, bytes);
-    pairs(sheet, bytes);
+    print_counts(rt, sheet)?;
+    print_services(rt, sheet, bytes)?;
+    print_cabinets(rt, sheet, bytes)?;
+    print_streams(rt, sheet, bytes)?;
+    print_pairs(rt, sheet, bytes)
 }
 
-fn main() {
+fn main(rt: HostRuntime) {
     let mut bytes = [0u8; LONGEST + 1];
     let n = io::read_full(0, &mut bytes);
-    if LONGEST < n {
-        refused(17);
-        return;
-    }
-    describe(&bytes[..n]);
+    // An output that takes no more is no failure of this program.
+    let _ = describe(&rt, &bytes[..n]);
 }

@@ -5,7 +5,7 @@ use Rattle.subsets.proofs.Provided.{provided_some}
 use Rattle.sheet.specs.Instance.{instance}
 use Rattle.sheet.specs.Reading.{reading}
 use Rattle.sheet.specs.declared.Sheet.{Sheet}
-use Rattle.sheet.specs.declared.Reading.TheVariants as readings
+use Rattle.std.specs.Prelude.{Ok}
 use Rattle.sheet.proofs.Promises.{well_formed}
 use Rattle.embedding.specs.Plan as plans
 use Rattle.embedding.specs.Plan.{place, valid, plan_cost, cheapest}
@@ -13,11 +13,10 @@ use Rattle.embedding.specs.First.{first_plan, places}
 use Rattle.embedding.proofs.First.{places_length, places_at, first_valid}
 use Rattle.embedding.proofs.Services.{worth_ext}
 use Rattle.checker.specs.Check.{checked}
-use Rattle.checker.specs.declared.Checked.TheVariants.{Accepted}
 use Rattle.checker.proofs.Answers.{accepted_iff}
 
-pub first_accepted : (bytes : List ℕ) (h : Sheet) → reading bytes ≡ readings.Accepted h → (k : ℕ) → cheapest (instance bytes) ≡ some k
-    → (plan : List ℕ) → plan ≡ places (instance bytes).r (first_plan (instance bytes)) → checked bytes plan ≡ Accepted k
+pub first_accepted : (bytes : List ℕ) (h : Sheet) → reading bytes ≡ Ok h → (k : ℕ) → cheapest (instance bytes) ≡ some k
+    → (plan : List ℕ) → plan ≡ places (instance bytes).r (first_plan (instance bytes)) → checked bytes plan ≡ Ok k
 unfolding plans.worth
 first_accepted bytes h reads k e plan is =
     let I = instance bytes in

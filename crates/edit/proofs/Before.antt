@@ -6,7 +6,7 @@ use Rattle.sheet.specs.Layout.{header}
 use Rattle.sheet.specs.Reading as reader
 use Rattle.sheet.specs.Reading.{reading, answered}
 use Rattle.sheet.specs.declared.Sheet.{Sheet}
-use Rattle.sheet.specs.declared.Reading.TheVariants as readings
+use Rattle.std.specs.Prelude.{Ok}
 use Rattle.sheet.proofs.Groups.{listed, first_listed}
 use Rattle.sheet.proofs.Order.{first_none, first_some}
 use Rattle.lending.specs.Rules.{lender_rules}
@@ -30,7 +30,7 @@ module _ (bytes : List ℕ) (e output costs choices : ℕ) (span : Span) where
   -- what is known where none applies
   pub record Passed : Type 0 where
     pub sheet : Sheet
-    pub reads : reading bytes ≡ readings.Accepted sheet
+    pub reads : reading bytes ≡ Ok sheet
     pub enough : Enough (instance bytes) output costs choices span
     pub within : e < (instance bytes).s
 

@@ -12,12 +12,11 @@ use Rattle.lending.specs.Spans.{within, Apart}
 use Rattle.lending.specs.declared.Span.{Span}
 use Rattle.lending.proofs.Spans.{within_same, apart_outside}
 use Rattle.lending.proofs.Rules.{enough_iff}
-use Rattle.planner.specs.Answers.{number, entries, Enough, solved}
+use Rattle.planner.specs.Answers.{unplanned, number, entries, Enough, solved}
 use Rattle.planner.specs.Lent.{used, part_after}
 use Rattle.planner.specs.Kept as kept
 use Rattle.planner.specs.Kept.{kept_costs, kept_choices, Kept}
 use Rattle.planner.specs.Inner.Tables.{cost_entry, choice_entry}
-use Rattle.planner.specs.declared.Planned.TheVariants.{Refused}
 use Rattle.planner.proofs.Lending.{solved_used}
 use Rattle.planner.proofs.Solved.{accepted_solved, used_solved}
 use Rattle.planner.proofs.After.{after_unused, after_length, after_within, after_others}
@@ -111,7 +110,7 @@ kept_choices_long I = table_length I (choice_entry I)
 module _ (d : Call) (E : Edits d) where
   -- what is known of an edit that is refused beforehand with the number n
   pub record Refusing (n : ℕ) : Type 0 where
-    pub answer : d.answer ≡ Refused (refusal n) 0
+    pub answer : d.answer ≡ unplanned (refusal n) 0
     pub untouched : Untouched d
     pub listed : one_of before_numbers n ≡ true
     pub number_is : number d.answer ≡ n

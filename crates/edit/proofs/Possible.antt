@@ -1,4 +1,5 @@
 -- Some answer and some memory after an edit stand in its contract, for every sheet, number, memory and span.
+use Rattle.std.specs.Prelude.{Ok, Err}
 use Rattle.std.proofs.Common.{◌≡◌, ℕ, zero, suc, ◌+◌, ◌<◌, ◌≤◌, Bool, true, false, ◌&&◌, ltb, List, ◌++◌, length, take, drop, sym, refl, ap, ◌∙◌, inl, append-nil, arith, drop_of_length-le, length-take, length-take-le, ltb-true, lt-ltb}
 use borrow.Rule.Slice.PartMut.{put_mid}
 use Rattle.subsets.specs.Costs.{Cost, none, some}
@@ -12,13 +13,11 @@ use Rattle.embedding.specs.Splits.{weighed}
 use Rattle.embedding.proofs.First.{places_length}
 use Rattle.lending.specs.declared.Span.{Span}
 use Rattle.lending.proofs.Rules.{enough_iff}
-use Rattle.planner.specs.Answers.{entries, solved}
+use Rattle.planner.specs.Answers.{Planned, unplanned, entries, solved}
 use Rattle.planner.specs.Lent.{OutputAfter}
 use Rattle.planner.specs.Kept as kept
 use Rattle.planner.specs.Kept.{Kept}
 use Rattle.planner.specs.Inner.Tables.{cost_entry, choice_entry}
-use Rattle.planner.specs.declared.Planned.{Planned}
-use Rattle.planner.specs.declared.Planned.TheVariants.{Plan, Refused}
 use Rattle.edit.specs.Calls.{called}
 use Rattle.edit.specs.Changed.{Changed}
 use Rattle.edit.specs.Edits.{Edits}
@@ -38,8 +37,8 @@ module _ (sheet : List ℕ) (e : ℕ) (output costs choices : List ℕ) (span : 
 
   -- its plan in the first r places of the output
   abbrev output_with : Planned → List ℕ
-  output_with (Plan k n) = places I.r (first_plan I)
-  output_with (Refused f n) = take I.r output
+  output_with (Ok p) = places I.r (first_plan I)
+  output_with (Err u) = take I.r output
 
   -- the cost rows that are written: those of the cabinets on the path
   abbrev on_path : ℕ → Bool
@@ -82,14 +81,14 @@ module _ (sheet : List ℕ) (e : ℕ) (output costs choices : List ℕ) (span : 
 
     -- the output, as long as the part that is written
     output_length : (a : Planned) → length (output_with a) ≡ I.r
-    output_length (Plan k n) = places_length I.r (first_plan I)
-    output_length (Refused f n) = length-take-le I.r output enough.0
+    output_length (Ok p) = places_length I.r (first_plan I)
+    output_length (Err u) = length-take-le I.r output enough.0
 
     output_after : (a : Planned) → OutputAfter I a (take I.r output) (output_with a)
-    output_after (Plan k n) =
+    output_after (Ok p) =
         sym (ap (λ (l : List ℕ). places I.r (first_plan I) ++ l) (drop_of_length-le (take I.r output) {i = I.r} (omega (arith, length-take I.r output)))
         ∙ append-nil (places I.r (first_plan I)))
-    output_after (Refused f n) = refl
+    output_after (Err u) = refl
 
     -- the plan is accepted by the check
     comes : (f : Cost) → cheapest I ≡ f → Comes sheet (solved f (weighed I)) (take I.r output) (output_with (solved f (weighed I)))
@@ -123,4 +122,4 @@ module _ (sheet : List ℕ) (e : ℕ) (output costs choices : List ℕ) (span : 
       go : (n : ℕ) → number_at sheet e (length output) (length costs) (length choices) span ≡ n
           → (a : Planned) × (output' : List ℕ) × (costs' : List ℕ) × (choices' : List ℕ) × Edits (called sheet e output costs choices span a output' costs' choices')
       go zero q = (answer, output_with answer ++ drop I.r output, put_mid span.first (entries I) costs costs_with, put_mid span.first (entries I) choices choices_with, possible q)
-      go (suc n) q = (Refused (refusal (suc n)) 0, output, costs, choices, refused_with sheet e output costs choices span n q)
+      go (suc n) q = (unplanned (refusal (suc n)) 0, output, costs, choices, refused_with sheet e output costs choices span n q)

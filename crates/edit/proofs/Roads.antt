@@ -1,4 +1,5 @@
 -- Two roads in one pair of tables: what comes of one road's calls is what comes of its own calls alone, whatever the other road's calls are.
+use Rattle.std.specs.Prelude.{Ok, Err}
 use Rattle.std.proofs.Common.{◌≡◌, ℕ, zero, suc, Bool, true, false, cond, leb, List, [], ◌∷◌, ◌++◌, length, drop, replicate, sym, refl, ap, ◌∙◌, subst, ap₂, subst₂}
 use Rattle.finite.proofs.Booleans.{clash}
 use Rattle.sheet.specs.Instance.{Instance, instance}
@@ -12,8 +13,7 @@ use Rattle.lending.proofs.Rules.{lender_past}
 use Rattle.planner.specs.Answers.{entries, planned}
 use Rattle.planner.specs.Lent.{part_after, front_after, OutputAfter}
 use Rattle.planner.specs.Kept.{kept_costs, kept_choices}
-use Rattle.planner.specs.declared.Planned.{Planned}
-use Rattle.planner.specs.declared.Planned.TheVariants.{Plan, Refused}
+use Rattle.planner.specs.Answers.{Planned}
 use Rattle.planner.proofs.Solved.{planned_past}
 use Rattle.edit.specs.Calls.{Call, called, asked, Leaves, Keeps}
 use Rattle.edit.specs.Changed.{Changed}
@@ -45,13 +45,13 @@ before_past bytes e output span costs choices costs₂ choices₂ c u =
 
 -- the output after a call with this answer
 abbrev output_of : Instance → Planned → List ℕ → List ℕ
-output_of I (Plan k n) output = places I.r (first_plan I) ++ drop I.r output
-output_of I (Refused f n) output = output
+output_of I (Ok p) output = places I.r (first_plan I) ++ drop I.r output
+output_of I (Err u) output = output
 
 -- there is no other
 output_is : (I : Instance) (a : Planned) (output output' : List ℕ) → OutputAfter I a output output' → output' ≡ output_of I a output
-output_is I (Plan k n) output output' e = e
-output_is I (Refused f n) output output' e = e
+output_is I (Ok p) output output' e = e
+output_is I (Err u) output output' e = e
 
 -- the span's entries after a call that leaves these rows in front of the span
 module _ (s : Span) (d : Call) (on : d.span ≡ s) (f g : Instance → List ℕ) (L : Leaves d (f (asked d)) (g (asked d)))
@@ -282,8 +282,8 @@ module _ (sheet : List ℕ) (e : ℕ) (o t u : List ℕ) (s : Span) where
   Outcome k = (a : Planned) × (o' : List ℕ) × (t' : List ℕ) × (u' : List ℕ) × Does k (called sheet e o t u s a o' t' u')
 
   output_then : (a : Planned) → OutputAfter (instance sheet) a o (output_of (instance sheet) a o)
-  output_then (Plan k n) = refl
-  output_then (Refused f n) = refl
+  output_then (Ok p) = refl
+  output_then (Err u) = refl
 
   -- one that leaves these rows in front of the span
   leaving : (f g : List ℕ) → (a : Planned) × (o' : List ℕ) × (t' : List ℕ) × (u' : List ℕ) × Leaves (called sheet e o t u s a o' t' u') f g

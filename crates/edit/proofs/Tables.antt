@@ -7,12 +7,11 @@ use Rattle.sheet.specs.Instance.{Instance}
 use Rattle.embedding.proofs.First.{places_length, places_at, places_ext}
 use Rattle.lending.specs.Spans.{within}
 use Rattle.lending.specs.declared.Span.{Span}
-use Rattle.planner.specs.Answers.{entries}
+use Rattle.planner.specs.Answers.{Planned, entries}
 use Rattle.planner.specs.Lent.{used, part_after, front_after}
 use Rattle.planner.specs.Kept as kept
 use Rattle.planner.specs.Kept.{table_of, kept_costs, kept_choices, Kept}
 use Rattle.planner.specs.Inner.Tables.{entry, cost_entry, choice_entry}
-use Rattle.planner.specs.declared.Planned.{Planned}
 use Rattle.planner.proofs.After.{after_within}
 use Rattle.edit.specs.Changed.{Changed}
 use Rattle.edit.proofs.Changing.{cost_same, choice_same}

@@ -2,10 +2,9 @@
 use Rattle.std.specs.Prelude.{◌≡◌, ℕ, List, length, replicate}
 use Rattle.sheet.specs.Instance.{Instance, instance}
 use Rattle.lending.specs.declared.Span.{Span}
-use Rattle.planner.specs.Answers.{entries, planned}
+use Rattle.planner.specs.Answers.{Planned, entries, planned}
 use Rattle.planner.specs.Lent.{front_after, OutputAfter}
 use Rattle.planner.specs.Kept.{kept_costs, kept_choices}
-use Rattle.planner.specs.declared.Planned.{Planned}
 
 -- a call on a pair of tables as it was made, and what came of it: primes mark what is there after it
 pub record Call : Type 0 where

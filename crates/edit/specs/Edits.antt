@@ -1,18 +1,15 @@
 -- What an edit answers and leaves, for any tables; and for tables kept of an instance that differs in the one cabinet alone.
-use Rattle.std.specs.Prelude.{◌≡◌, ℕ, ◌+◌, ◌*◌, ◌^◌, ◌<◌, ◌≤◌, false, ◌⊎◌, List, [], ◌∷◌, ◌++◌, length, take, drop, ◌≢◌, nat_le, slice_index}
+use Rattle.std.specs.Prelude.{◌≡◌, ℕ, ◌+◌, ◌*◌, ◌^◌, ◌<◌, ◌≤◌, false, ◌⊎◌, List, [], ◌∷◌, ◌++◌, length, take, drop, ◌≢◌, nat_le, slice_index, Ok, Err}
 use Rattle.subsets.specs.Tree.{under}
 use Rattle.sheet.specs.Instance.{Instance, instance}
 use Rattle.sheet.specs.Reading as reader
 use Rattle.sheet.specs.Refusals.{Rule, first_applying, refusal}
 use Rattle.checker.specs.Check.{checked}
-use Rattle.checker.specs.declared.Checked.TheVariants.{Accepted}
 use Rattle.lending.specs.Spans.{within}
 use Rattle.lending.specs.Rules.{lender_rules}
 use Rattle.lending.specs.declared.Span.{Span}
-use Rattle.planner.specs.Answers.{entries, plan_numbers}
+use Rattle.planner.specs.Answers.{Planned, unplanned, entries, plan_numbers}
 use Rattle.planner.specs.Kept.{Kept}
-use Rattle.planner.specs.declared.Planned.{Planned}
-use Rattle.planner.specs.declared.Planned.TheVariants.{Plan, Refused}
 use Rattle.edit.specs.Calls.{Call, asked, Untouched, Keeps}
 use Rattle.edit.specs.Changed.{Changed}
 
@@ -43,9 +40,9 @@ module _ (d : Call) where
 -- what comes of any tables: the check accepts the plan in the first r places of the output at the cost answered, and all other places stay; or it is
 -- 12, or 23 without a count, and all of the output stays. Which of these it is, and the count, are free.
 abbrev pub Outcome : Call → Planned → Type 0
-Outcome d (Plan k n) =
-    (checked d.sheet (take (asked d).r d.output') ≡ Accepted k) × (d.output' ≡ take (asked d).r d.output' ++ drop (asked d).r d.output)
-Outcome d (Refused f n) = ((f ≡ refusal 12) ⊎ ((f ≡ refusal 23) × (n ≡ 0))) × (d.output' ≡ d.output)
+Outcome d (Ok p) =
+    (checked d.sheet (take (asked d).r d.output') ≡ Ok p.cost) × (d.output' ≡ take (asked d).r d.output' ++ drop (asked d).r d.output)
+Outcome d (Err u) = ((u.refusal ≡ refusal 12) ⊎ ((u.refusal ≡ refusal 23) × (u.count ≡ 0))) × (d.output' ≡ d.output)
 
 -- an entry is the same before and after
 abbrev pub stays : List ℕ → List ℕ → ℕ → Type 0
@@ -65,7 +62,7 @@ pub record RowsStay (d : Call) : Type 0 where
 -- what an edit answers and leaves
 pub record Edits (d : Call) : Type 0 where
   -- a refusal given before a table is touched has no count, and leaves all memory
-  pub refused : (n : ℕ) → (n ≢ 0) → number_before d ≡ n → (d.answer ≡ Refused (refusal n) 0) × Untouched d
+  pub refused : (n : ℕ) → (n ≢ 0) → number_before d ≡ n → (d.answer ≡ unplanned (refusal n) 0) × Untouched d
   -- else, for any tables
   pub outcome : number_before d ≡ 0 → Outcome d d.answer
   pub rows : number_before d ≡ 0 → RowsStay d

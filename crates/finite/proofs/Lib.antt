@@ -4,5 +4,6 @@ pub mod Fronts
 pub mod Middles
 pub mod Sums
 pub mod Tests
+pub mod Ranges
 pub mod OneToOne
 pub mod Decides

@@ -4,9 +4,8 @@ use mathlib.Core.Path.{◌≡◌, subst}
 use mathlib.Core.List.{List}
 use Rattle.sheet.specs.Instance.{instance}
 use Rattle.lending.specs.declared.Span.{Span}
-use Rattle.planner.specs.Answers.{number}
+use Rattle.planner.specs.Answers.{Planned, number}
 use Rattle.planner.specs.Lent.{front_after, OutputAfter}
-use Rattle.planner.specs.declared.Planned.{Planned}
 use Rattle.gazrieksne.specs.Plans.{answer_with, plan_answer}
 
 module _ (bytes o o' t t' u u' costs choices : List ℕ) where

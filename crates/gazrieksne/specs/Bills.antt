@@ -1,8 +1,7 @@
 -- The entry point of the bill: numbers in place of a tariff and of an answer.
 use Rattle.std.specs.Prelude.{ℕ, List, [], ◌∷◌}
-use Rattle.bill.specs.Answers.{group, net_told, tax_told, total_told}
+use Rattle.bill.specs.Answers.{Billed, group, net_told, tax_told, total_told}
 use Rattle.bill.specs.declared.tariff.Tariff.{Tariff}
-use Rattle.bill.specs.declared.Billed.{Billed}
 
 -- gz_bill is given block price, slot price and tax rate
 abbrev pub tariff_of : ℕ → ℕ → ℕ → Tariff

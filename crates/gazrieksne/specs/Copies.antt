@@ -1,7 +1,6 @@
 -- The entry point of the tidy copy: numbers in place of answers.
 use Rattle.std.specs.Prelude.{ℕ, List, [], ◌∷◌}
-use Rattle.tidy.specs.Answers.{group, bytes_written}
-use Rattle.tidy.specs.declared.Written.{Written}
+use Rattle.tidy.specs.Answers.{Written, group, bytes_written}
 
 -- gz_tidy writes group and length
 abbrev pub written_answer : Written → List ℕ

@@ -2,10 +2,9 @@
 use Rattle.std.specs.Prelude.{ℕ, List, [], ◌∷◌, length}
 use Rattle.lending.specs.Spans.{whole}
 use Rattle.lending.specs.declared.Span.{Span}
-use Rattle.planner.specs.Answers.{group, cost, count, planned}
+use Rattle.planner.specs.Answers.{Planned, group, cost, count, planned}
 use Rattle.planner.specs.Bounds as bounds
-use Rattle.planner.specs.declared.Planned.{Planned}
-use Rattle.planner.specs.declared.SplitBound.{SplitBound}
+use Rattle.planner.specs.Bounds.{SplitBound}
 
 -- the span of the calls without one: all of the shorter table
 abbrev pub whole_of : List ℕ → List ℕ → Span

@@ -5,23 +5,23 @@ ghost use Rattle.embedding.specs.Plan.{place};
 ghost use Rattle.bill.specs.Answers.{number, billed, lines_after};
 ghost use Rattle.gazrieksne.specs.Bills.{tariff_of, bill_answer};
 
-use crate::reads::wide;
-use bill::Billed;
+use bill::sums::Bill;
 use bill::tariff::Tariff;
+use sheet::Refusal;
 
 // The refusal's number, 0 for none; group, net, tax and total are written.
-fn tell(billed: Billed, answer: &mut [u64; 4]) -> u64
+fn tell(billed: Result<Bill, Refusal>, answer: &mut [u64; 4]) -> u64
     ensures refusal { result ≡ number billed }
     ensures answer { answer.new ≡ bill_answer billed }
 {
     match billed {
-        Billed::Bill { net, tax, total } => {
-            *answer = [0, net, tax, total];
+        Ok(bill) => {
+            *answer = [0, bill.net, bill.tax, bill.total];
             0
         }
-        Billed::Refused(refusal) => {
+        Err(refusal) => {
             *answer = [refusal.group(), 0, 0, 0];
-            wide(refusal.number())
+            u64::from(refusal.number())
         }
     }
 }
@@ -42,9 +42,9 @@ pub extern "C" fn gz_bill(
     ensures lines { lines.new ≡ lines_after (instance bytes.now) (place plan.now) (tariff_of block_price slot_price tax_rate) (billed bytes.now plan.now (tariff_of block_price slot_price tax_rate) (length lines.old)) lines.old }
 {
     let tariff = Tariff {
-        block_price: block_price,
-        slot_price: slot_price,
-        tax_rate: tax_rate,
+        block_price,
+        slot_price,
+        tax_rate,
     };
     let billed = bill::bill(bytes, plan, tariff, lines);
     tell(billed, answer)

@@ -3,9 +3,6 @@ ghost use Rattle.std.specs.Prelude.{◌≡◌, ◌∷◌, []};
 ghost use Rattle.checker.specs.Check.{checked};
 ghost use Rattle.checker.specs.Answers.{number, group, cost};
 
-use crate::reads::wide;
-use checker::Checked;
-
 // The refusal's number, 0 for none; group and cost are written.
 #[unsafe(no_mangle)]
 pub extern "C" fn gz_check(bytes: &[u8], plan: &[u16], answer: &mut [u64; 2]) -> u64
@@ -13,13 +10,13 @@ pub extern "C" fn gz_check(bytes: &[u8], plan: &[u16], answer: &mut [u64; 2]) ->
     ensures answer { answer.new ≡ group (checked bytes.now plan.now) ∷ cost (checked bytes.now plan.now) ∷ [] }
 {
     match checker::check(bytes, plan) {
-        Checked::Accepted(k) => {
-            *answer = [0, k];
+        Ok(cost) => {
+            *answer = [0, cost];
             0
         }
-        Checked::Refused(refusal) => {
+        Err(refusal) => {
             *answer = [refusal.group(), 0];
-            wide(refusal.number())
+            u64::from(refusal.number())
         }
     }
 }

@@ -5,22 +5,21 @@ ghost use Rattle.tidy.specs.Copy.{tidied};
 ghost use Rattle.tidy.specs.Answers.{number, tidy_answer, output_after};
 ghost use Rattle.gazrieksne.specs.Copies.{written_answer};
 
-use crate::reads::wide;
-use tidy::Written;
+use sheet::Refusal;
 
 // The refusal's number, 0 for none; group and length are written.
-fn tell(written: Written, answer: &mut [u64; 2]) -> u64
+fn tell(written: Result<usize, Refusal>, answer: &mut [u64; 2]) -> u64
     ensures refusal { result ≡ number written }
     ensures answer { answer.new ≡ written_answer written }
 {
     match written {
-        Written::Bytes(n) => {
+        Ok(n) => {
             *answer = [0, n as u64];
             0
         }
-        Written::Refused(refusal) => {
+        Err(refusal) => {
             *answer = [refusal.group(), 0];
-            wide(refusal.number())
+            u64::from(refusal.number())
         }
     }
 }

@@ -1,8 +1,7 @@
 // The entry points of the call that edits kept tables.
 ghost use Rattle.std.specs.Prelude.{◌≡◌};
 ghost use Rattle.lending.specs.Spans.{span_of};
-ghost use Rattle.planner.specs.Answers.{number as plan_number};
-ghost use Rattle.planner.specs.declared.Planned.{Planned};
+ghost use Rattle.planner.specs.Answers.{Planned, number as plan_number};
 ghost use Rattle.edit.specs.Calls.{called};
 ghost use Rattle.edit.specs.Edits.{Edits};
 ghost use Rattle.gazrieksne.specs.Plans.{whole_of, plan_answer};
@@ -41,10 +40,7 @@ pub extern "C" fn gz_edit_span(
 ) -> u64
     ensures { (a : Planned) × Edits (called bytes.now cabinet output.old costs.old choices.old (span_of first number) a output.new costs.new choices.new) × (result ≡ plan_number a) × (answer.new ≡ plan_answer a) }
 {
-    let span = Span {
-        first: first,
-        number: number,
-    };
+    let span = Span { first, number };
     let answered = edit::edit(bytes, cabinet, output, costs, choices, span);
     tell(answered, answer)
 }

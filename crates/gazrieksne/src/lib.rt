@@ -1,4 +1,5 @@
-// The C entry points: thin functions over the library's calls. native/include/gazrieksne.h documents them.
+// The C entry points: thin functions over the library's calls. native/include/gazrieksne.h documents them. C takes numbers for answers, the fields of
+// a struct one by one, and a name for each call: that is why these functions look alike.
 #![tactic(auto)]
 
 mod bills; // bills.rt: gz_bill

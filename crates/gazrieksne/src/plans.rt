@@ -8,23 +8,22 @@ ghost use Rattle.planner.specs.Kept.{kept_costs, kept_choices};
 ghost use Rattle.planner.specs.Bounds.{split_bound, number as bound_number};
 ghost use Rattle.gazrieksne.specs.Plans.{whole_of, answer_with, plan_answer, bound_answer};
 
-use crate::reads::wide;
 use lending::Span;
-use planner::{Planned, SplitBound};
+use planner::{Found, Unplanned};
 
 // The refusal's number, 0 for none; group, cost and count are written.
-pub(crate) fn tell(answered: Planned, answer: &mut [u64; 3]) -> u64
+pub(crate) fn tell(answered: Result<Found, Unplanned>, answer: &mut [u64; 3]) -> u64
     ensures refusal { result ≡ plan_number answered }
     ensures answer { answer.new ≡ plan_answer answered }
 {
     match answered {
-        Planned::Plan { cost, count } => {
-            *answer = [0, cost, count];
+        Ok(plan) => {
+            *answer = [0, plan.cost, plan.count];
             0
         }
-        Planned::Refused(refusal, count) => {
-            *answer = [refusal.group(), 0, count];
-            wide(refusal.number())
+        Err(unplanned) => {
+            *answer = [unplanned.refusal.group(), 0, unplanned.count];
+            u64::from(unplanned.refusal.number())
         }
     }
 }
@@ -66,10 +65,7 @@ pub extern "C" fn gz_plan_span(
     ensures costs { costs.new ≡ table_after (instance bytes.now) (answer_with bytes.now output.old costs.old choices.old (span_of first number)) (span_of first number) costs.old }
     ensures choices { choices.new ≡ table_after (instance bytes.now) (answer_with bytes.now output.old costs.old choices.old (span_of first number)) (span_of first number) choices.old }
 {
-    let span = Span {
-        first: first,
-        number: number,
-    };
+    let span = Span { first, number };
     let answered = planner::plan(bytes, output, costs, choices, span);
     tell(answered, answer)
 }
@@ -111,10 +107,7 @@ pub extern "C" fn gz_keep_span(
     ensures costs { costs.new ≡ front_after (instance bytes.now) (answer_with bytes.now output.old costs.old choices.old (span_of first number)) (span_of first number) (kept_costs (instance bytes.now)) costs.old }
     ensures choices { choices.new ≡ front_after (instance bytes.now) (answer_with bytes.now output.old costs.old choices.old (span_of first number)) (span_of first number) (kept_choices (instance bytes.now)) choices.old }
 {
-    let span = Span {
-        first: first,
-        number: number,
-    };
+    let span = Span { first, number };
     let answered = planner::keep(bytes, output, costs, choices, span);
     tell(answered, answer)
 }
@@ -126,13 +119,13 @@ pub extern "C" fn gz_bound(services: usize, cabinets: usize, answer: &mut [u64; 
     ensures answer { answer.new ≡ bound_answer (split_bound services cabinets) }
 {
     match planner::bound(services, cabinets) {
-        SplitBound::AtMost(n) => {
+        Ok(n) => {
             *answer = [0, n];
             0
         }
-        SplitBound::Refused(refusal) => {
+        Err(refusal) => {
             *answer = [refusal.group(), 0];
-            wide(refusal.number())
+            u64::from(refusal.number())
         }
     }
 }

@@ -3,17 +3,6 @@ ghost use Rattle.std.specs.Prelude.{◌≡◌};
 ghost use Rattle.sheet.specs.Reading.{reading, number};
 ghost use Rattle.gazrieksne.specs.Reads.{read_counts, service_of, service_flag, service_words, cabinet_of, cabinet_flag, cabinet_words, stream_of, stream_flag, stream_words, pair_of, pair_flag, pair_words};
 
-use sheet::{
-    Cabinet, CabinetRecord, Pair, PairRecord, Reading, Refusal, Service, ServiceRecord, Sheet,
-    Stream, StreamRecord,
-};
-
-pub(crate) fn wide(n: u16) -> u64
-    ensures { result ≡ n }
-{
-    n as u64
-}
-
 // Group, services, cabinets, streams and barred pairs; the refusal's number, 0 for none.
 #[unsafe(no_mangle)]
 pub extern "C" fn gz_read(bytes: &[u8], counts: &mut [u64; 5]) -> u64
@@ -21,7 +10,7 @@ pub extern "C" fn gz_read(bytes: &[u8], counts: &mut [u64; 5]) -> u64
     ensures counts { counts.new ≡ read_counts (reading bytes.now) }
 {
     match sheet::read(bytes) {
-        Reading::Accepted(sheet) => {
+        Ok(sheet) => {
             *counts = [
                 0,
                 sheet.services() as u64,
@@ -31,47 +20,11 @@ pub extern "C" fn gz_read(bytes: &[u8], counts: &mut [u64; 5]) -> u64
             ];
             0
         }
-        Reading::Refused(refusal) => {
+        Err(refusal) => {
             *counts = [refusal.group(), 0, 0, 0, 0];
-            wide(refusal.number())
+            u64::from(refusal.number())
         }
     }
-}
-
-fn find_service(bytes: &[u8], number: usize) -> ServiceRecord
-    ensures { result ≡ service_of (reading bytes.now) bytes.now number }
-{
-    let Reading::Accepted(sheet) = sheet::read(bytes) else {
-        return ServiceRecord::Missing;
-    };
-    sheet.service(bytes, number)
-}
-
-fn find_cabinet(bytes: &[u8], number: usize) -> CabinetRecord
-    ensures { result ≡ cabinet_of (reading bytes.now) bytes.now number }
-{
-    let Reading::Accepted(sheet) = sheet::read(bytes) else {
-        return CabinetRecord::Missing;
-    };
-    sheet.cabinet(bytes, number)
-}
-
-fn find_stream(bytes: &[u8], number: usize) -> StreamRecord
-    ensures { result ≡ stream_of (reading bytes.now) bytes.now number }
-{
-    let Reading::Accepted(sheet) = sheet::read(bytes) else {
-        return StreamRecord::Missing;
-    };
-    sheet.stream(bytes, number)
-}
-
-fn find_pair(bytes: &[u8], number: usize) -> PairRecord
-    ensures { result ≡ pair_of (reading bytes.now) bytes.now number }
-{
-    let Reading::Accepted(sheet) = sheet::read(bytes) else {
-        return PairRecord::Missing;
-    };
-    sheet.pair(bytes, number)
 }
 
 // 1 and the demand, or 0 and the record as it was.
@@ -80,7 +33,10 @@ pub extern "C" fn gz_service(bytes: &[u8], number: usize, words: &mut [u64; 1]) 
     ensures flag { result ≡ service_flag (service_of (reading bytes.now) bytes.now number) }
     ensures written { words.new ≡ service_words (service_of (reading bytes.now) bytes.now number) words.old }
 {
-    let ServiceRecord::Given(k) = find_service(bytes, number) else {
+    let Ok(sheet) = sheet::read(bytes) else {
+        return 0;
+    };
+    let Some(k) = sheet.service(bytes, number) else {
         return 0;
     };
     *words = [k.demand];
@@ -93,7 +49,10 @@ pub extern "C" fn gz_cabinet(bytes: &[u8], number: usize, words: &mut [u64; 7]) 
     ensures flag { result ≡ cabinet_flag (cabinet_of (reading bytes.now) bytes.now number) }
     ensures written { words.new ≡ cabinet_words (cabinet_of (reading bytes.now) bytes.now number) words.old }
 {
-    let CabinetRecord::Given(k) = find_cabinet(bytes, number) else {
+    let Ok(sheet) = sheet::read(bytes) else {
+        return 0;
+    };
+    let Some(k) = sheet.cabinet(bytes, number) else {
         return 0;
     };
     *words = [
@@ -114,7 +73,10 @@ pub extern "C" fn gz_stream(bytes: &[u8], number: usize, words: &mut [u64; 3]) -
     ensures flag { result ≡ stream_flag (stream_of (reading bytes.now) bytes.now number) }
     ensures written { words.new ≡ stream_words (stream_of (reading bytes.now) bytes.now number) words.old }
 {
-    let StreamRecord::Given(t) = find_stream(bytes, number) else {
+    let Ok(sheet) = sheet::read(bytes) else {
+        return 0;
+    };
+    let Some(t) = sheet.stream(bytes, number) else {
         return 0;
     };
     *words = [t.from as u64, t.to as u64, t.demand];
@@ -127,7 +89,10 @@ pub extern "C" fn gz_barred(bytes: &[u8], number: usize, words: &mut [u64; 2]) -
     ensures flag { result ≡ pair_flag (pair_of (reading bytes.now) bytes.now number) }
     ensures written { words.new ≡ pair_words (pair_of (reading bytes.now) bytes.now number) words.old }
 {
-    let PairRecord::Given(p) = find_pair(bytes, number) else {
+    let Ok(sheet) = sheet::read(bytes) else {
+        return 0;
+    };
+    let Some(p) = sheet.pair(bytes, number) else {
         return 0;
     };
     *words = [p.service as u64, p.cabinet as u64];

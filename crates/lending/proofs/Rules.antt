@@ -8,13 +8,13 @@ use mathlib.Core.List.{List, [], ◌∷◌}
 use lib.Dec.{ltb}
 use borrow.Author.Tests.{lt-ltb, le-ltb, ltb-true, ltb-false}
 use Rattle.finite.proofs.Booleans.{either, either_l, either_r, neither, neither_l, neither_r, same_test}
+use Rattle.std.specs.Prelude.{Ok, Err}
 use Rattle.sheet.specs.Refusals.{Rule, one_of, first_applying, refusal}
 use Rattle.sheet.specs.declared.Refusal.{Refusal}
 use Rattle.sheet.proofs.Groups.{first_listed}
 use Rattle.lending.specs.Spans.{whole, runs_past}
 use Rattle.lending.specs.Rules.{lender_rules, room}
 use Rattle.lending.specs.declared.Span.{Span}
-use Rattle.lending.specs.declared.Measured.TheVariants.{Enough, Refused}
 use Rattle.lending.proofs.Spans.{whole_fits}
 
 -- the numbers of the lender's refusals
@@ -84,11 +84,11 @@ either_past span costs choices = (
 )
 
 -- what `measure` answers tells the number
-pub room_enough : (n : ℕ) → Enough ≡ room n → n ≡ 0
+pub room_enough : (n : ℕ) → Ok tt ≡ room n → n ≡ 0
 room_enough zero e = refl
 room_enough (suc n) e = absurd (let z : ◌≡◌ {A = ℕ} 0 1 = cc in omega arith)
 
-pub room_refused : (n : ℕ) (f : Refusal) → Refused f ≡ room n → (m : ℕ) × (n ≡ suc m) × (f ≡ refusal (suc m))
+pub room_refused : (n : ℕ) (f : Refusal) → Err f ≡ room n → (m : ℕ) × (n ≡ suc m) × (f ≡ refusal (suc m))
 room_refused zero f e = absurd (let z : ◌≡◌ {A = ℕ} 0 1 = cc in omega arith)
 room_refused (suc n) f e = (n, refl, cc)
 

@@ -1,10 +1,9 @@
 -- The lender's refusals: 01's section "Who can cause a refusal", and 02 (h).
-use Rattle.std.specs.Prelude.{ℕ, zero, suc, ◌||◌, List, [], ◌∷◌, ltb}
+use Rattle.std.specs.Prelude.{ℕ, zero, suc, ◌||◌, List, [], ◌∷◌, ltb, Result, Ok, Err}
 use Rattle.sheet.specs.Refusals.{Rule, refusal}
+use Rattle.sheet.specs.declared.Refusal.{Refusal}
 use Rattle.lending.specs.Spans.{runs_past}
 use Rattle.lending.specs.declared.Span.{Span}
-use Rattle.lending.specs.declared.Measured.{Measured}
-use Rattle.lending.specs.declared.Measured.TheVariants.{Enough, Refused}
 
 -- the lender's refusals, in the order in which they are tried, for a plan that needs so many places and entries, with an output and tables of these
 -- lengths: 11 is measured on the span
@@ -15,7 +14,11 @@ lender_rules places entries output costs choices span =
     ∷ record { number = 11; applies = ltb span.number entries }
     ∷ []
 
+-- whether the memory lent is enough, or the lender's refusal
+abbrev pub Measured : Type 0
+Measured = Result (Unit {0}) Refusal
+
 -- the lender's refusal of a number, where 0 stands for none
 abbrev pub room : ℕ → Measured
-room zero = Enough
-room (suc n) = Refused (refusal (suc n))
+room zero = Ok tt
+room (suc n) = Err (refusal (suc n))

@@ -20,15 +20,9 @@ impl Span {
     pub fn whole(costs: usize, choices: usize) -> Span
         ensures { result ≡ whole costs choices }
     {
-        if choices < costs {
-            return Span {
-                first: 0,
-                number: choices,
-            };
-        }
         Span {
             first: 0,
-            number: costs,
+            number: costs.min(choices),
         }
     }
 
@@ -36,23 +30,13 @@ impl Span {
     pub fn runs_past(self, table: usize) -> bool
         ensures { result ≡ runs_past self table }
     {
-        let first = self.first;
-        let number = self.number;
-        if table < first {
-            return true;
-        }
-        table - first < number
+        table < self.first || table - self.first < self.number
     }
 }
 
-// Whether the memory lent is enough, or the lender's refusal.
-#[derive(Clone, Copy)]
-pub enum Measured {
-    Enough,
-    Refused(Refusal),
-}
-
-// Measures an output and two tables of these lengths, for a plan that needs so many places and so many entries of the span.
+// Measures an output and two tables of these lengths, for a plan that needs so many places and so many entries of the span: whether they are enough, or
+// the lender's refusal.
+#[tactic(auto, unfolding(sheet::specs::Refusals::first_applying, sheet::specs::Refusals::refusal))]
 pub fn measure(
     places: usize,
     entries: usize,
@@ -60,18 +44,17 @@ pub fn measure(
     costs: usize,
     choices: usize,
     span: Span,
-) -> Measured
+) -> Result<(), Refusal>
     ensures { result ≡ room (first_applying (lender_rules places entries output costs choices span)) }
 {
-    let number = span.number;
     if output < places {
-        return Measured::Refused(Refusal::Lender(10));
+        return Err(Refusal::SHORT_OUTPUT);
     }
-    if span.runs_past(costs) | span.runs_past(choices) {
-        return Measured::Refused(Refusal::Lender(24));
+    if span.runs_past(costs) || span.runs_past(choices) {
+        return Err(Refusal::SPAN_OUTSIDE);
     }
-    if number < entries {
-        return Measured::Refused(Refusal::Lender(11));
+    if span.number < entries {
+        return Err(Refusal::SHORT_SPAN);
     }
-    Measured::Enough
+    Ok(())
 }

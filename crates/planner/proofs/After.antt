@@ -5,9 +5,8 @@ use Rattle.sheet.specs.Instance.{Instance}
 use Rattle.lending.specs.Spans.{within, replaced}
 use Rattle.lending.specs.declared.Span.{Span}
 use Rattle.lending.proofs.Spans.{within_length, replaced_length, within_replaced, replaced_front}
-use Rattle.planner.specs.Answers.{entries}
+use Rattle.planner.specs.Answers.{Planned, entries}
 use Rattle.planner.specs.Lent.{used, part_after, front_after}
-use Rattle.planner.specs.declared.Planned.{Planned}
 use Rattle.planner.proofs.Lending.{unused_stays}
 
 module _ (I : Instance) (a : Planned) (span : Span) (front table : List ℕ) (long : length front ≡ entries I)

@@ -1,6 +1,6 @@
 -- For records that pass the core's tests, what the core answers and keeps is what the instance that they tell of says:
 -- the kept tables hold its entries, the answer is its cheapest cost with its count of splits, and the output is the first of its cheapest plans.
-use Rattle.std.proofs.Common.{◌≡◌, ℕ, ◌*◌, ◌^◌, ◌<◌, ◌≤◌, Bool, true, false, ◌||◌, ltb, leb, List, ◌++◌, length, get_or, sym, refl, ap, ◌∙◌, subst, ap₂, append-nil, arith, drop_of_length-le, lt-ltb, eq-eqb, ne_eqb, le-leb, leb-false}
+use Rattle.std.proofs.Common.{◌≡◌, ℕ, ◌*◌, ◌^◌, ◌<◌, ◌≤◌, Bool, true, false, ◌||◌, ltb, leb, List, ◌++◌, length, get_or, replicate, sym, refl, ap, ◌∙◌, subst, ap₂, append-nil, arith, drop_of_length-le, lt-ltb, eq-eqb, ne_eqb, le-leb, leb-false}
 use mathlib.Core.Path.{fun_ext}
 use lib.Bits.{bit_and}
 use Rattle.finite.proofs.Tests.{all_in}
@@ -48,7 +48,6 @@ use Rattle.planner.specs.Answers.{entries, solved}
 use Rattle.planner.specs.Lent.{OutputAfter}
 use Rattle.planner.specs.Kept.{kept_costs, kept_choices}
 use Rattle.planner.specs.Inner.Tables.{cost_entry, choice_entry, Filled}
-use Rattle.planner.specs.Inner.Fronts.{front_of}
 use Rattle.records.specs.Told.{told}
 use Rattle.records.proofs.Bars.{set_barred, bars_there}
 use Rattle.planner.specs.Inner.Decided.{planned_of}
@@ -256,12 +255,12 @@ after_plan k s o o' lo same (kept.Plan c n) e H =
 after_plan k s o o' lo same (kept.NoPlan n) e H = H
 after_plan k s o o' lo same kept.Unfit e H = H
 
--- A call on a well-formed instance's records, with memory of the size that it needs: what it answers, writes, and keeps or clears.
-pub record Left-of (keeps : Bool) (k : Records) (o o' t' u' : List ℕ) (a : Kept) : Type 0 where
+-- A call on a well-formed instance's records, with memory of the size that it needs: what it answers and writes, and the tables that it leaves.
+pub record Left-of (k : Records) (left_costs left_choices o o' t' u' : List ℕ) (a : Kept) : Type 0 where
   pub answer : planned_of a ≡ solved (cheapest (told k)) (weighed (told k))
   pub output : OutputAfter (told k) (planned_of a) o o'
-  pub costs : t' ≡ front_of (told k) keeps (kept_costs (told k))
-  pub choices : u' ≡ front_of (told k) keeps (kept_choices (told k))
+  pub costs : t' ≡ left_costs
+  pub choices : u' ≡ left_choices
 
 module _ (k : Records) (o o' t t' u u' : List ℕ) (a : Kept) (W : WellFormed (told k)) (lo : length o ≡ (told k).r) (lt : length t ≡ entries (told k))
     (lu : length u ≡ entries (told k)) (same : length o' ≡ length o) where
@@ -272,7 +271,7 @@ module _ (k : Records) (o o' t t' u u' : List ℕ) (a : Kept) (W : WellFormed (t
   fit = fits_told k (length o) (length t) (length u) W lo lt lu
 
   -- A keeping call.
-  pub keeps_instance : length t' ≡ length t → length u' ≡ length u → Keeps k o o' t t' u u' a → Left-of true k o o' t' u' a
+  pub keeps_instance : length t' ≡ length t → length u' ≡ length u → Keeps k o o' t t' u u' a → Left-of k (kept_costs (told k)) (kept_choices (told k)) o o' t' u' a
   unfolding kept_costs kept_choices
   keeps_instance st su K =
       let F = kept_tables k passed t' u' _ (K.tables fit) in record {
@@ -283,7 +282,7 @@ module _ (k : Records) (o o' t t' u u' : List ℕ) (a : Kept) (W : WellFormed (t
       }
 
   -- A solving call.
-  pub solves_instance : Solves k o o' t t' u u' a → Left-of false k o o' t' u' a
+  pub solves_instance : Solves k o o' t t' u u' a → Left-of k (replicate (entries (told k)) 0) (replicate (entries (told k)) 0) o o' t' u' a
   unfolding told
   solves_instance K = record {
     answer = ap planned_of (K.answer fit) ∙ kept_answer k passed;

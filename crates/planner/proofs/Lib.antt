@@ -5,5 +5,6 @@ pub mod Kept
 pub mod Lending
 pub mod Order
 pub mod Solved
+pub mod Preparing
 pub mod After
-mod Bounding
+pub mod Powers

@@ -4,7 +4,7 @@ use Rattle.subsets.specs.Costs.{Cost, none, some, is_some}
 use Rattle.sheet.specs.Instance.{Instance, instance}
 use Rattle.sheet.specs.Refusals.{Rule, first_applying, giving, in_order}
 use Rattle.sheet.specs.Reading as reader
-use Rattle.sheet.specs.declared.Reading.{Reading}
+use Rattle.sheet.specs.Reading.{Reading}
 use Rattle.sheet.proofs.Groups.{number_refusal, listed}
 use Rattle.sheet.proofs.Order.{first_none, first_some, after_reader}
 use Rattle.embedding.specs.Plan.{cheapest}

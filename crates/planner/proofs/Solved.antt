@@ -5,8 +5,8 @@ use Rattle.sheet.specs.Instance.{instance}
 use Rattle.sheet.specs.Refusals.{Rule, one_of, first_applying, refusal, number_of}
 use Rattle.sheet.specs.Reading.{reader_numbers, reading}
 use Rattle.sheet.specs.declared.Sheet.{Sheet}
-use Rattle.sheet.specs.declared.Reading.{Reading}
-use Rattle.sheet.specs.declared.Reading.TheVariants as readings
+use Rattle.sheet.specs.Reading.{Reading}
+use Rattle.std.specs.Prelude.{Ok, Err}
 use Rattle.sheet.proofs.Groups.{number_refusal, reading_number}
 use Rattle.embedding.specs.Plan.{cheapest}
 use Rattle.embedding.specs.Splits.{weighed}
@@ -20,7 +20,7 @@ use Rattle.planner.specs.Lent.{used}
 -- the reader accepts, and the memory is enough
 pub record Solved (bytes : List ℕ) (output costs choices : ℕ) (span : Span) : Type 0 where
   pub sheet : Sheet
-  pub reads : reading bytes ≡ readings.Accepted sheet
+  pub reads : reading bytes ≡ Ok sheet
   pub enough : Enough (instance bytes) output costs choices span
 
 module _ (bytes : List ℕ) (output costs choices : ℕ) (span : Span) where
@@ -35,7 +35,7 @@ module _ (bytes : List ℕ) (output costs choices : ℕ) (span : Span) where
   unfolding planned
   used_solved u = go (reading bytes) refl u
     where
-      lender : (h : Sheet) → reading bytes ≡ readings.Accepted h → (m : ℕ) → first_applying (lender_rules (instance bytes).r (entries (instance bytes)) output costs choices span) ≡ m
+      lender : (h : Sheet) → reading bytes ≡ Ok h → (m : ℕ) → first_applying (lender_rules (instance bytes).r (entries (instance bytes)) output costs choices span) ≡ m
           → used (lent m (instance bytes)) ≡ true → Solved bytes output costs choices span
       lender h e zero q u = record { sheet = h; reads = e; enough = q }
       lender h e (suc n) q u =
@@ -43,8 +43,8 @@ module _ (bytes : List ℕ) (output costs choices : ℕ) (span : Span) where
           ∙ ap (one_of lender_numbers) (sym (number_refusal (suc n)) ∙ eqb-true (number_of (refusal (suc n))) 12 u))
 
       go : (r : Reading) → reading bytes ≡ r → used (answered r (instance bytes) output costs choices span) ≡ true → Solved bytes output costs choices span
-      go (readings.Accepted h) e u = lender h e (first_applying (lender_rules (instance bytes).r (entries (instance bytes)) output costs choices span)) refl u
-      go (readings.Refused f) e u = clash (sym (reading_number bytes f e) ∙ ap (one_of reader_numbers) (eqb-true (number_of f) 12 u))
+      go (Ok h) e u = lender h e (first_applying (lender_rules (instance bytes).r (entries (instance bytes)) output costs choices span)) refl u
+      go (Err f) e u = clash (sym (reading_number bytes f e) ∙ ap (one_of reader_numbers) (eqb-true (number_of f) 12 u))
 
 -- of the lengths of both tables the answer counts only whether the span runs past them
 pub planned_past : (bytes : List ℕ) (output : ℕ) (span : Span) (costs choices costs₂ choices₂ : ℕ)
@@ -54,7 +54,7 @@ unfolding planned
 planned_past bytes output span costs choices costs₂ choices₂ c u = go (reading bytes)
   where
     go : (r : Reading) → answered r (instance bytes) output costs choices span ≡ answered r (instance bytes) output costs₂ choices₂ span
-    go (readings.Accepted h) =
+    go (Ok h) =
         ap (λ (rules : List Rule). lent (first_applying rules) (instance bytes))
         (lender_past (instance bytes).r (entries (instance bytes)) output span costs choices costs₂ choices₂ c u)
-    go (readings.Refused f) = refl
+    go (Err f) = refl

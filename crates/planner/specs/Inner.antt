@@ -1,4 +1,4 @@
 -- What only private functions and proofs cite.
 pub mod Tables
 pub mod Decided
-pub mod Fronts
+pub mod Prepared

@@ -1,17 +1,15 @@
 -- What the planner leaves in the memory lent to it, by its answer.
-use Rattle.std.specs.Prelude.{◌≡◌, ℕ, Bool, true, cond, List, ◌++◌, drop, replicate, ◌==◌}
+use Rattle.std.specs.Prelude.{◌≡◌, ℕ, Bool, true, cond, List, ◌++◌, drop, replicate, ◌==◌, Ok, Err}
 use Rattle.sheet.specs.Instance.{Instance}
 use Rattle.embedding.specs.First.{first_plan, places}
 use Rattle.lending.specs.Spans.{within, replaced}
 use Rattle.lending.specs.declared.Span.{Span}
-use Rattle.planner.specs.Answers.{number, entries}
-use Rattle.planner.specs.declared.Planned.{Planned}
-use Rattle.planner.specs.declared.Planned.TheVariants.{Plan, Refused}
+use Rattle.planner.specs.Answers.{Planned, number, entries}
 
 -- the tables were used: the answer is a plan or 12
 abbrev pub used : Planned → Bool
-used (Plan k n) = true
-used (Refused f n) = number (Refused f n) == 12
+used (Ok p) = true
+used (Err u) = number (Err u) == 12
 
 -- the entries of the span after a call: where they were used these are the first s × 2^r of them, and all others stay
 abbrev pub part_after : Instance → Planned → List ℕ → List ℕ → List ℕ
@@ -28,5 +26,5 @@ table_after I answer span table = front_after I answer span (replicate (entries 
 -- the output after the call: with a plan its first r places are the first of the cheapest plans, and all other places stay; with a refusal all places
 -- stay
 abbrev pub OutputAfter : Instance → Planned → List ℕ → List ℕ → Type 0
-OutputAfter I (Plan k n) output output' = output' ≡ places I.r (first_plan I) ++ drop I.r output
-OutputAfter I (Refused f n) output output' = output' ≡ output
+OutputAfter I (Ok p) output output' = output' ≡ places I.r (first_plan I) ++ drop I.r output
+OutputAfter I (Err u) output output' = output' ≡ output

@@ -1,6 +1,5 @@
 // The program that tidies: a sheet comes from standard input, and its tidy copy goes to standard output.
-use crate::{STDERR, STDIN, STDOUT};
-use tidy::Written;
+use crate::{STDERR, STDIN, give};
 
 // Says on standard error what is refused.
 fn refuse(number: u16) {
@@ -9,23 +8,14 @@ fn refuse(number: u16) {
     io::write_all(STDERR, &text[..n]);
 }
 
-// Writes the copy, and says whether all of it was written. If it was not, a line on standard error says so too.
-fn give(copy: &[u8]) -> bool {
-    if io::write_all(STDOUT, copy) {
-        return true;
-    }
-    io::write_all(STDERR, b"tidy: standard output could not be written\n");
-    false
-}
-
 // Says whether a copy was written. The buffer has one byte more than the longest sheet: what is longer has a wrong length word.
 pub fn run() -> bool {
     let mut bytes = io::large_buffer();
     let mut copy = [0u8; tidy::LONGEST];
     let read = io::read_full(STDIN, &mut bytes);
     match tidy::tidy(&bytes[..read], &mut copy) {
-        Written::Bytes(n) => give(&copy[..n]),
-        Written::Refused(refusal) => {
+        Ok(n) => give(&copy[..n], b"tidy: standard output could not be written\n"),
+        Err(refusal) => {
             refuse(refusal.number());
             false
         }

@@ -20,9 +20,7 @@ use Rattle.sheet.specs.Reading.{reading}
 use Rattle.sheet.specs.Records.{pair_record, bars}
 use Rattle.sheet.specs.declared.Sheet.{Sheet}
 use Rattle.sheet.specs.declared.Pair.{Pair}
-use Rattle.sheet.specs.declared.PairRecord.{PairRecord}
-use Rattle.sheet.specs.declared.PairRecord.TheVariants.{Given}
-use Rattle.sheet.specs.declared.Reading.TheVariants.{Accepted}
+use Rattle.std.specs.Prelude.{Option, Some, Ok}
 use Rattle.sheet.proofs.Promises.{well_formed, barred_pairs, only_there}
 use Rattle.records.specs.declared.Records.{Records}
 use Rattle.records.specs.Inner.Loading.{Barring}
@@ -41,7 +39,7 @@ module _ (h : Sheet) (bytes : List ℕ) where
   }
 
   -- one pair more: its service joins the set of its cabinet
-  pub next_barred : (n : ℕ) (sets : List ℕ) (p : Pair) → pair_record h bytes n ≡ Given p → p.cabinet < max_cabinets
+  pub next_barred : (n : ℕ) (sets : List ℕ) (p : Pair) → pair_record h bytes n ≡ Some p → p.cabinet < max_cabinets
       → Barring h bytes n sets → Barring h bytes (n + 1) (set sets p.cabinet (bit_or (get_or sets p.cabinet 0) (2 ^ p.service)))
   unfolding any_below names
   next_barred n sets p e l B = record {
@@ -53,7 +51,7 @@ module _ (h : Sheet) (bytes : List ℕ) where
       word = bit_or (get_or sets p.cabinet 0) (2 ^ p.service)
 
       more : (i c : ℕ) → any_below n (λ k. bars (pair_record h bytes k) i c) || (eqb p.service i && eqb p.cabinet c) ≡ any_below (n + 1) (λ k. bars (pair_record h bytes k) i c)
-      more i c = rw add-one (ap (λ (b : Bool). any_below n (λ k. bars (pair_record h bytes k) i c) || b) (sym (ap (λ (x : PairRecord). bars x i c) e)))
+      more i c = rw add-one (ap (λ (b : Bool). any_below n (λ k. bars (pair_record h bytes k) i c) || b) (sym (ap (λ (x : Option Pair). bars x i c) e)))
 
       go : (i c : ℕ) (t : Bool) → eqb p.cabinet c ≡ t
           → has (get_or (set sets p.cabinet word) c 0) i ≡ any_below n (λ k. bars (pair_record h bytes k) i c) || (eqb p.service i && t)
@@ -71,7 +69,7 @@ module _ (h : Sheet) (bytes : List ℕ) where
 -- ---- once all were read
 
 -- the sets tell of what the sheet bars
-pub all_barred : (bytes : List ℕ) (h : Sheet) → reading bytes ≡ Accepted h → (x : Records) → x.services ≡ (instance bytes).r → x.cabinets ≡ (instance bytes).s
+pub all_barred : (bytes : List ℕ) (h : Sheet) → reading bytes ≡ Ok h → (x : Records) → x.services ≡ (instance bytes).r → x.cabinets ≡ (instance bytes).s
     → Barring h bytes h.pairs x.barred → (i c : ℕ) → (told x).barred i c ≡ (instance bytes).barred i c
 unfolding told
 all_barred bytes h a x r s B i c =

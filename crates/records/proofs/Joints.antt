@@ -13,7 +13,7 @@ use Rattle.sheet.specs.Limits.{max_cabinets}
 use Rattle.sheet.specs.Instance.{instance}
 use Rattle.sheet.specs.Reading.{reading}
 use Rattle.sheet.specs.declared.Sheet.{Sheet}
-use Rattle.sheet.specs.declared.Reading.TheVariants.{Accepted}
+use Rattle.std.specs.Prelude.{Ok}
 use Rattle.sheet.proofs.Promises.{well_formed, joints_by_capacity}
 use Rattle.records.specs.declared.Records.{Records}
 use Rattle.records.specs.Inner.Loading.{Loading, Jointed}
@@ -32,7 +32,7 @@ next_jointed capacity n marks b h e J = record {
 }
 
 -- all of them: a cabinet is a joint exactly where the instance says so
-pub all_jointed : (bytes : List ℕ) (h : Sheet) → reading bytes ≡ Accepted h → (x : Records) (i j : ℕ) → Loading (instance bytes) i (instance bytes).s j x
+pub all_jointed : (bytes : List ℕ) (h : Sheet) → reading bytes ≡ Ok h → (x : Records) (i j : ℕ) → Loading (instance bytes) i (instance bytes).s j x
     → Jointed x.capacity max_cabinets x.joint → (c : ℕ) → (told x).joint c ≡ (instance bytes).joint c
 unfolding told
 all_jointed bytes h a x i j L J c =

@@ -2,3 +2,5 @@
 pub mod Columns
 pub mod Bars
 pub mod Joints
+pub mod Given
+pub mod Taken

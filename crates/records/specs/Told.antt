@@ -1,13 +1,12 @@
 -- The instance that records in arrays tell of, and the records of bytes.
-use Rattle.std.specs.Prelude.{◌≡◌, false, List, ℕ, get_or, replicate}
+use Rattle.std.specs.Prelude.{false, ℕ, Result, Ok, Err, get_or, replicate}
 use Rattle.subsets.specs.Sets.{has}
 use Rattle.sheet.specs.Limits.{max_services, max_cabinets, max_streams}
-use Rattle.sheet.specs.Instance.{Instance, of_records, instance}
-use Rattle.sheet.specs.Reading.{reading}
-use Rattle.sheet.specs.declared.Sheet.{Sheet}
+use Rattle.sheet.specs.Instance.{Instance, of_records}
+use Rattle.sheet.specs.Reading.{Reading}
 use Rattle.sheet.specs.declared.Refusal.{Refusal}
-use Rattle.sheet.specs.declared.Reading.TheVariants.{Accepted, Refused}
 use Rattle.records.specs.declared.Records.{Records}
+use Rattle.records.specs.declared.Loaded.{Loaded}
 
 -- the instance of the records; a field of a record that isn't there is 0, the services barred from a cabinet are the members of its set, and a
 -- joint is marked as one, whatever its capacity
@@ -55,7 +54,7 @@ blank r s q =
       load = replicate max_streams 0;
     }
 
--- the records loaded from bytes: those of the sheet, or none where the reader refuses it
-pub record LoadedFrom (bytes : List ℕ) (k : Records) : Type 0 where
-  pub accepted : (h : Sheet) → reading bytes ≡ Accepted h → told k ≡ instance bytes
-  pub refused : (f : Refusal) → reading bytes ≡ Refused f → k ≡ blank 0 0 0
+-- what loading answers: the reader's answer, with the records beside the sheet
+abbrev pub answer_of : Result Loaded Refusal → Reading
+answer_of (Ok loaded) = Ok loaded.sheet
+answer_of (Err f) = Err f

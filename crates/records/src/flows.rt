@@ -13,16 +13,11 @@ pub struct Flow {
 }
 
 // How many frames a stream of so much demand has: one if that is above 0.
+#[tactic(auto, unfolding(finite::specs::Below::only))]
 pub fn frames_of(demand: u16) -> u16
     ensures { result ≡ frames_in demand }
 {
-    if 0 < demand { 1 } else { 0 }
-}
-
-fn wide(x: u32) -> u64
-    ensures { (result ≡ x) × (result < 4294967296) }
-{
-    x as u64
+    u16::from(0 < demand)
 }
 
 impl Flow {
@@ -30,6 +25,6 @@ impl Flow {
     pub fn load(self) -> u64
         ensures { result ≡ load_of self }
     {
-        wide(self.demand) + FRAME * wide(self.frames)
+        u64::from(self.demand) + FRAME * u64::from(self.frames)
     }
 }

@@ -1,27 +1,29 @@
 // The records of a sheet in arrays of 16-bit numbers, for check and planner alike.
 #![tactic(auto)]
 
-ghost use Rattle.std.specs.Prelude.{◌≡◌, false, ltb, get_or};
+ghost use Rattle.std.specs.Prelude.{◌≡◌, false, ltb, get_or, IfOk};
 ghost use Rattle.finite.specs.Below.{only};
 ghost use Rattle.subsets.specs.Sets.{has};
+ghost use Rattle.sheet.specs.Instance.{instance};
 ghost use Rattle.sheet.specs.Reading.{reading};
 ghost use Rattle.sheet.specs.Inner.Fields.{service_of, cabinet_of, stream_of};
-ghost use Rattle.records.specs.Told.{told, LoadedFrom};
+ghost use Rattle.records.specs.Told.{told, answer_of};
 
-use sheet::{Cabinet, Reading, Refusal, Service, Sheet, Stream};
+use sheet::{Cabinet, Refusal, Service, Sheet, Stream};
 use subsets::member;
 
 pub mod flows; // flows.rt: what runs through one direction of a link
 mod loading; // loading.rt: the records of an accepted sheet, read into arrays
 
-use loading::{blank_records, load_accepted};
+use loading::Accepted;
 
-// Places for marks of cabinets. There are more than cabinets, so that the records take more than 4,096 bytes: the planner copies them once for each row
-// from one place to the next, and some processors are slow at that where the places lie a little less than 4,096 bytes apart.
+// Places for marks of cabinets, more than cabinets: records are lent, and copied only where `load` answers and where the planner keeps them in what
+// it prepares; some processors are slow at copies between places a little less than 4,096 bytes apart, and with so many marks records take more.
 pub const MARKS: usize = 256;
 
-// The records of a road and of a request; fields past the counts mean nothing. The services barred from a cabinet are a set: service i is
-// barred where digit i of the number is 1. Whether a cabinet is a joint stands apart from its capacity.
+// The records of a road and of a request; fields past the counts mean nothing. An array for each field and not one of structs: a copy's blocks, the
+// tests of the limits and the lists of children read one field of all records, each by one function for every field. The services barred from a
+// cabinet are a set: service i is barred where digit i of the number is 1. Whether a cabinet is a joint stands apart from its capacity.
 #[derive(Clone, Copy)]
 pub struct Records {
     pub services: usize,
@@ -42,115 +44,94 @@ pub struct Records {
     pub load: [u16; Sheet::MAX_STREAMS],
 }
 
-// What the reader answers, with the records of an accepted sheet; with a refusal there are none.
+// An accepted sheet, with its records.
 #[derive(Clone, Copy)]
 pub struct Loaded {
-    pub answer: Reading,
+    pub sheet: Sheet,
     pub records: Records,
 }
 
 // Reads a sheet, and loads its records.
-pub fn load(bytes: &[u8]) -> Loaded
-    ensures answer { result.answer ≡ reading bytes.now }
-    ensures records { LoadedFrom bytes.now result.records }
+pub fn load(bytes: &[u8]) -> Result<Loaded, Refusal>
+    ensures answer { answer_of result ≡ reading bytes.now }
+    ensures records { IfOk result (λ loaded. told loaded.records ≡ instance bytes.now) }
 {
-    let answer = sheet::read(bytes);
-    let Reading::Accepted(sheet) = answer else {
-        return Loaded {
-            answer: answer,
-            records: blank_records(0, 0, 0),
-        };
-    };
-    Loaded {
-        answer: answer,
-        records: load_accepted(sheet, bytes),
-    }
+    let sheet = sheet::read(bytes)?;
+    Ok(Loaded {
+        sheet,
+        records: Accepted { sheet, bytes }.records(),
+    })
 }
 
-// Field i of so many records; 0 where there is no such record. For a loop, which lends it the one array that it reads:
-// a method of `Records` is given a copy of them all.
+// Field i of so many records; 0 where there is no such record. For a loop, which lends it the one array that it reads.
+#[tactic(auto, unfolding(finite::specs::Below::only))]
 pub fn field(column: &[u16], count: usize, i: usize) -> u16
     ensures { result ≡ only (ltb i count) (get_or column.now i 0) }
 {
     if count <= i {
         return 0;
     }
-    if column.len() <= i {
-        return 0;
-    }
-    column[i]
+    column.get(i).copied().unwrap_or(0)
 }
 
 // Whether service i is in the set of cabinet c, of so many cabinets; not where there is no such cabinet. For a loop, in the same way.
 pub fn is_in_set(sets: &[u16], count: usize, c: usize, i: usize) -> bool
     ensures { result ≡ has (only (ltb c count) (get_or sets.now c 0)) i }
 {
-    member(index(field(sets, count, c)), i)
+    member(usize::from(field(sets, count, c)), i)
 }
 
 // Whether number i is marked; none past the marks is.
 pub fn is_marked(marks: &[bool], i: usize) -> bool
     ensures { result ≡ get_or marks.now i false }
 {
-    if marks.len() <= i {
-        return false;
-    }
-    marks[i]
-}
-
-fn wide(x: u16) -> u64
-    ensures { result ≡ x }
-{
-    x as u64
-}
-
-fn index(x: u16) -> usize
-    ensures { result ≡ x }
-{
-    x as usize
+    marks.get(i).copied().unwrap_or(false)
 }
 
 impl Records {
     // Service i; zeros where there is none.
-    pub fn service(self, i: usize) -> Service
-        ensures { result ≡ service_of (told self) i }
+    #[tactic(auto, unfolding(crate::specs::Told::told))]
+    pub fn service(&self, i: usize) -> Service
+        ensures { result ≡ service_of (told self.now) i }
     {
         Service {
-            demand: wide(field(&self.demand, self.services, i)),
+            demand: u64::from(field(&self.demand, self.services, i)),
         }
     }
 
     // Cabinet c; zeros where there is none.
-    pub fn cabinet(self, c: usize) -> Cabinet
-        ensures { result ≡ cabinet_of (told self) c }
+    #[tactic(auto, unfolding(crate::specs::Told::told))]
+    pub fn cabinet(&self, c: usize) -> Cabinet
+        ensures { result ≡ cabinet_of (told self.now) c }
     {
         let n = self.cabinets;
         Cabinet {
-            parent: index(field(&self.parent, n, c)),
-            capacity: wide(field(&self.capacity, n, c)),
-            price: wide(field(&self.price, n, c)),
-            up_capacity: wide(field(&self.up_capacity, n, c)),
-            up_price: wide(field(&self.up_price, n, c)),
-            down_capacity: wide(field(&self.down_capacity, n, c)),
-            down_price: wide(field(&self.down_price, n, c)),
+            parent: usize::from(field(&self.parent, n, c)),
+            capacity: u64::from(field(&self.capacity, n, c)),
+            price: u64::from(field(&self.price, n, c)),
+            up_capacity: u64::from(field(&self.up_capacity, n, c)),
+            up_price: u64::from(field(&self.up_price, n, c)),
+            down_capacity: u64::from(field(&self.down_capacity, n, c)),
+            down_price: u64::from(field(&self.down_price, n, c)),
         }
     }
 
     // Stream j; zeros where there is none.
-    pub fn stream(self, j: usize) -> Stream
-        ensures { result ≡ stream_of (told self) j }
+    #[tactic(auto, unfolding(crate::specs::Told::told))]
+    pub fn stream(&self, j: usize) -> Stream
+        ensures { result ≡ stream_of (told self.now) j }
     {
         let n = self.streams;
         Stream {
-            from: index(field(&self.from, n, j)),
-            to: index(field(&self.to, n, j)),
-            demand: wide(field(&self.load, n, j)),
+            from: usize::from(field(&self.from, n, j)),
+            to: usize::from(field(&self.to, n, j)),
+            demand: u64::from(field(&self.load, n, j)),
         }
     }
 
     // Whether service i is barred from cabinet c; not where either isn't there.
-    pub fn is_barred(self, i: usize, c: usize) -> bool
-        ensures { result ≡ (told self).barred i c }
+    pub fn is_barred(&self, i: usize, c: usize) -> bool
+        ensures { result ≡ (told self.now).barred i c }
     {
         if self.services <= i {
             return false;
@@ -159,8 +140,9 @@ impl Records {
     }
 
     // Whether cabinet c is a joint; not where it isn't there.
-    pub fn is_joint(self, c: usize) -> bool
-        ensures { result ≡ (told self).joint c }
+    #[tactic(auto, unfolding(crate::specs::Told::told))]
+    pub fn is_joint(&self, c: usize) -> bool
+        ensures { result ≡ (told self.now).joint c }
     {
         if self.cabinets <= c {
             return false;

@@ -5,7 +5,7 @@ use mathlib.Core.List.{List, [], ◌∷◌}
 use lib.ListN.{length, replicate}
 use borrow.Author.Tests.{lt-ltb}
 use Rattle.sheet.specs.Refusals.{refusal}
-use Rattle.planner.specs.declared.Planned.TheVariants.{Plan, Refused}
+use Rattle.planner.specs.Answers.{plan_of, unplanned}
 use Rattle.report.specs.Text.{longest, digits_within, decimal, line, service_lines, answer_text, printed}
 
 pub zero : decimal 0 ≡ 48 ∷ []
@@ -26,7 +26,7 @@ largest_word = refl
 
 -- "cost 15", "weighed 12", "0 1", "1 2"
 pub measured :
-    answer_text (Plan 15 12) (1 ∷ 2 ∷ []) ≡
+    answer_text (plan_of 15 12) (1 ∷ 2 ∷ []) ≡
     99 ∷ 111 ∷ 115 ∷ 116 ∷ 32 ∷ 49 ∷ 53 ∷ 10
     ∷ 119 ∷ 101 ∷ 105 ∷ 103 ∷ 104 ∷ 101 ∷ 100 ∷ 32 ∷ 49 ∷ 50 ∷ 10
     ∷ 48 ∷ 32 ∷ 49 ∷ 10
@@ -35,7 +35,7 @@ unfolding answer_text service_lines line decimal digits_within
 measured = refl
 
 -- "refused 12"
-pub no_plan : answer_text (Refused (refusal 12) 10) [] ≡ 114 ∷ 101 ∷ 102 ∷ 117 ∷ 115 ∷ 101 ∷ 100 ∷ 32 ∷ 49 ∷ 50 ∷ 10 ∷ []
+pub no_plan : answer_text (unplanned (refusal 12) 10) [] ≡ 114 ∷ 101 ∷ 102 ∷ 117 ∷ 115 ∷ 101 ∷ 100 ∷ 32 ∷ 49 ∷ 50 ∷ 10 ∷ []
 unfolding answer_text line decimal digits_within refusal
 no_plan = refl
 

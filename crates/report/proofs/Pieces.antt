@@ -1,32 +1,11 @@
 -- Pieces that are put into a text one after the other.
 use Prim.Native.Nat.{ℕ, suc, ◌+◌, ◌≤◌, ◌<◌}
 use native.Mathlib.Numerals.{add-one}
-use native.Mathlib.Omega.{arith}
-use mathlib.Core.Path.{◌≡◌, sym, ap, ◌∙◌}
-use mathlib.Core.List.{List, [], ◌∷◌, ◌++◌, append_assoc, append-nil}
-use lib.ListN.{length, take, drop, get_or, set, drop_of_length-le}
-use lib.Seq.{take-suc, take-suc-set, take_all, drop-cons}
+use mathlib.Core.Path.{◌≡◌, sym, ◌∙◌}
+use mathlib.Core.List.{List, ◌++◌, append_assoc, append-nil}
+use lib.ListN.{length, drop, get_or, drop_of_length-le}
+use lib.Seq.{drop-cons}
 use Rattle.report.specs.Text.{decimal, space, line_end, line, service_lines}
-
--- nothing of a piece
-pub none_yet : (text : List ℕ) (at : ℕ) → take (at + 0) text ≡ take at text ++ []
-none_yet text at = let n : at + 0 ≡ at = omega arith in rw n (sym (append-nil (take at text)))
-
--- one byte more of a piece
-pub one_more :
-    (text text₀ piece : List ℕ) (at i : ℕ) → at + i < length text → i < length piece
-    → take (at + i) text ≡ take at text₀ ++ take i piece
-    → take (at + (i + 1)) (set text (at + i) (get_or piece i 0)) ≡ take at text₀ ++ take (i + 1) piece
-one_more text text₀ piece at i h g e =
-    let n : at + (i + 1) ≡ suc (at + i) = omega arith in
-    rw (n, add-one i, take-suc-set text (at + i) (get_or piece i 0) h, take-suc piece i 0 g, e) (append_assoc (take at text₀) (take i piece) (get_or piece i 0 ∷ []))
-
--- the whole piece
-pub whole :
-    (text text₀ piece : List ℕ) (at i : ℕ) → length piece ≤ i
-    → take (at + i) text ≡ take at text₀ ++ take i piece
-    → take (at + i) text ≡ take at text₀ ++ piece
-whole text text₀ piece at i h e = e ∙ ap (λ (l : List ℕ). take at text₀ ++ l) (take_all i piece h)
 
 -- a word, a space, a number and the line's end are a line
 pub line_put :

@@ -1,13 +1,11 @@
 -- The program's text, in ASCII: 01's section "The program" and its refusal 17.
-use Rattle.std.specs.Prelude.{ℕ, zero, suc, ◌+◌, ◌/◌, ◌%◌, cond, List, [], ◌∷◌, ◌++◌, ltb, length}
+use Rattle.std.specs.Prelude.{ℕ, zero, suc, ◌+◌, ◌/◌, ◌%◌, cond, List, [], ◌∷◌, ◌++◌, ltb, length, Ok, Err}
 use Rattle.sheet.specs.Limits.{max_services}
 use Rattle.sheet.specs.Refusals.{number_of}
 use Rattle.sheet.specs.Instance.{instance}
 use Rattle.embedding.specs.First.{first_plan, places}
 use Rattle.lending.specs.Spans.{whole}
-use Rattle.planner.specs.Answers.{planned}
-use Rattle.planner.specs.declared.Planned.{Planned}
-use Rattle.planner.specs.declared.Planned.TheVariants.{Plan, Refused}
+use Rattle.planner.specs.Answers.{Planned, planned}
 
 -- the most bytes that the program takes as a sheet
 abbrev pub longest : ℕ
@@ -65,8 +63,8 @@ service_lines i (c ∷ cs) = line (decimal i) c ++ service_lines (suc i) cs
 
 -- the text of an answer, with the cabinets of the plan that was written
 unfoldable pub answer_text : Planned → List ℕ → List ℕ
-answer_text (Plan cost count) plan = line cost_word cost ++ line weighed_word count ++ service_lines 0 plan
-answer_text (Refused f count) plan = refusal_line (number_of f)
+answer_text (Ok p) plan = line cost_word p.cost ++ line weighed_word p.count ++ service_lines 0 plan
+answer_text (Err u) plan = refusal_line (number_of u.refusal)
 
 -- the planner's answer with the memory that the program lends, its tables as a whole
 abbrev pub program_answer : List ℕ → Planned

@@ -9,17 +9,17 @@ ghost use Rattle.sheet.specs.Limits.{max_services};
 ghost use Rattle.sheet.specs.Reading.{reading, services};
 
 use lending::Span;
-use planner::Planned;
-use sheet::{Reading, Sheet};
+use planner::{Found, Unplanned};
+use sheet::Sheet;
 
 mod lines; // lines.rt: pieces, numbers and lines, put into the text
 
-use lines::{put_line, put_services, wide};
+use lines::{put_line, put_services};
 
 // The most bytes that are taken as a sheet.
 pub const LONGEST: usize = 4096;
 
-// The number of the refusal of more bytes.
+// The number of the refusal of more bytes: the program's own, which is in no group.
 const TOO_LONG: u64 = 17;
 
 // The entries of each table that is lent to the planner.
@@ -32,26 +32,25 @@ pub const TEXT: usize = 512;
 fn services_of(sheet: &[u8]) -> usize
     ensures { (result ≤ max_services) × (result ≡ services (reading sheet.now)) }
 {
-    let reading = sheet::read(sheet);
-    let Reading::Accepted(accepted) = reading else {
-        return 0;
-    };
-    accepted.services()
+    match sheet::read(sheet) {
+        Ok(accepted) => accepted.services(),
+        Err(_) => 0,
+    }
 }
 
 // Puts the text of an answer, with the plan that was written.
-fn put_answer(text: &mut [u8], answer: Planned, plan: &[u16]) -> usize
+fn put_answer(text: &mut [u8], answer: Result<Found, Unplanned>, plan: &[u16]) -> usize
     requires { (length text.old ≡ room) × (length plan.now ≤ max_services) }
     ensures position { result ≤ room }
     ensures text { take result text.new ≡ answer_text answer plan.now }
 {
     match answer {
-        Planned::Plan { cost, count } => {
-            let weighed = put_line(text, 0, b"cost", cost);
-            let services = put_line(text, weighed, b"weighed", count);
+        Ok(found) => {
+            let weighed = put_line(text, 0, b"cost", found.cost);
+            let services = put_line(text, weighed, b"weighed", found.count);
             put_services(text, services, plan)
         }
-        Planned::Refused(refusal, _) => put_line(text, 0, b"refused", wide(refusal.number())),
+        Err(unplanned) => put_line(text, 0, b"refused", u64::from(unplanned.refusal.number())),
     }
 }
 
@@ -75,7 +74,7 @@ pub fn refuse(number: u16, text: &mut [u8; TEXT]) -> usize
     ensures length { IsPrefixLen result text.new }
     ensures text { take result text.new ≡ refusal_line number }
 {
-    put_line(text, 0, b"refused", wide(number))
+    put_line(text, 0, b"refused", u64::from(number))
 }
 
 // Puts the text for a sheet at the start of `text`, and answers its length.

@@ -1,4 +1,5 @@
-// Pieces, numbers and lines, put into the text at a position. Each call answers the position after what it put.
+// Pieces, numbers and lines, put into the text at a position. Each call answers the position after what it put. No format and no String: the text is
+// a buffer of the caller's, since there is no heap, and `printed` says each byte of it.
 ghost use Rattle.std.specs.Prelude.{◌≡◌, ◌++◌, ◌+◌, ◌*◌, ◌≤◌, length, take};
 ghost use Rattle.report.specs.Inner.Room.{most_digits, after_word, most_service};
 ghost use Rattle.report.specs.Text.{decimal, line, service_lines};
@@ -11,12 +12,9 @@ fn put(text: &mut [u8], at: usize, piece: &[u8]) -> usize
     ensures position { result ≡ at + length piece.now }
     ensures text { take result text.new ≡ take at text.old ++ piece.now }
 {
-    let mut k = 0;
-    while k < piece.len() {
-        text[at + k] = piece[k];
-        k += 1;
-    }
-    at + k
+    let end = at + piece.len();
+    text[at..end].copy_from_slice(piece);
+    end
 }
 
 fn put_number(text: &mut [u8], at: usize, n: u64) -> usize
@@ -50,22 +48,14 @@ fn put_service(text: &mut [u8], at: usize, i: u64, c: u64) -> usize
     put_line(text, at, &digits[..k], c)
 }
 
-pub(crate) fn wide(n: u16) -> u64
-    ensures { result ≡ n }
-{
-    n as u64
-}
-
 pub(crate) fn put_services(text: &mut [u8], at: usize, plan: &[u16]) -> usize
     requires { at + length plan.now * most_service ≤ length text.old }
     ensures position { result ≤ at + length plan.now * most_service }
     ensures text { take result text.new ≡ take at text.old ++ service_lines 0 plan.now }
 {
     let mut end = at;
-    let mut i = 0;
-    while i < plan.len() {
-        end = put_service(text, end, i as u64, wide(plan[i]));
-        i += 1;
+    for (i, cabinet) in plan.iter().enumerate() {
+        end = put_service(text, end, i as u64, u64::from(*cabinet));
     }
     end
 }

@@ -11,17 +11,18 @@ use lib.ListN.{length}
 use borrow.Author.Tests.{eqb-true, eqb-false, ltb-true, ltb-false}
 use Rattle.finite.proofs.Booleans.{clash, both_l, both_r, is_false, neither}
 use Rattle.subsets.specs.Tree.{under}
+use Rattle.subsets.specs.declared.Key.{Key}
 use Rattle.subsets.specs.Inner.Net.{Falls}
 use Rattle.subsets.proofs.Tree.{under_refl, under_up, under_trans, under_step, under_small}
 use Rattle.rows.specs.Cabinets.{parent_of}
 use Rattle.rows.specs.Rebuilds.{entry, back_key, key_entry, source, Rebuilds, KeysKept, Built}
-use Rattle.rows.specs.Paths.{on_path, Climbs, next_row, rows_near, RebuildsRows, climbable, ClimbsRows}
+use Rattle.rows.specs.Paths.{on_path, Climbs, next_row, rows_near, RebuildsRows}
 use Rattle.records.specs.declared.Records.{Records}
 use Rattle.rows.proofs.Filling.{From, from_start, from_kept, from_next, from_all, stays_built, now_built, kept_now}
 
 module _ (k : Records) (size : ℕ) (sums : List ℕ) (rows e : ℕ) where
   -- q is next: the rows on the path that are neither q nor above it are built, and the keys of those near q are kept
-  pub record Climbing (near q : ℕ) (t t₁ u u₁ g₁ : List ℕ) : Type 0 where
+  pub record Climbing (near q : ℕ) (t t₁ u u₁ : List ℕ) (g₁ : List Key) : Type 0 where
     pub within : q < k.cabinets
     pub path : on_path k e q ≡ true
     pub built : (d : ℕ) → d < k.cabinets → on_path k e d ≡ true → under (parent_of k) d q ≡ false → (q < d) × Built k size d sums t₁ u₁
@@ -31,7 +32,7 @@ module _ (k : Records) (size : ℕ) (sums : List ℕ) (rows e : ℕ) where
     pub keys : (d x : ℕ) → q < d → d < k.cabinets → d - q < near → x < size → key_entry size g₁ (d % rows) x ≡ back_key k size u₁ d x
 
   -- nothing is built yet
-  pub climb_start : e < k.cabinets → (t u g : List ℕ) → Climbing 1 e t t u u g
+  pub climb_start : e < k.cabinets → (t u : List ℕ) (g : List Key) → Climbing 1 e t t u u g
   climb_start l t u g = record {
     within = l;
     path = under_refl (parent_of k) e;
@@ -43,10 +44,10 @@ module _ (k : Records) (size : ℕ) (sums : List ℕ) (rows e : ℕ) where
   }
 
   -- what a row's rebuilding asks of the keys kept
-  pub climb_kept : {near q : ℕ} {t t₁ u u₁ g : List ℕ} → 2 ≤ rows → rows * (2 * size) ≤ length g → Climbing near q t t₁ u u₁ g → KeysKept k size q rows near u₁ g
+  pub climb_kept : {near q : ℕ} {t t₁ u u₁ : List ℕ} {g : List Key} → 2 ≤ rows → rows * size ≤ length g → Climbing near q t t₁ u u₁ g → KeysKept k size q rows near u₁ g
   climb_kept two places C = record { some_rows = omega arith; no_more = omega (arith, C.no_more); places = places; keys = C.keys }
 
-  module _ (falls : Falls (parent_of k)) (row_size : size ≡ 2 ^ k.services) {near q : ℕ} {t t₁ t₂ u u₁ u₂ g₁ g₂ : List ℕ} {m : ℕ}
+  module _ (falls : Falls (parent_of k)) (row_size : size ≡ 2 ^ k.services) {near q : ℕ} {t t₁ t₂ u u₁ u₂ : List ℕ} {g₁ g₂ : List Key} {m : ℕ}
       (C : Climbing near q t t₁ u u₁ g₁) (B : Rebuilds (source k size q sums t₁ u₁) size q (q % rows) k.cabinets t₁ t₂ u₁ u₂ g₁ g₂ m) where
     -- the row of q is built, and what was built stays so
     now : (d : ℕ) → d < k.cabinets → on_path k e d ≡ true → ((d ≡ q → ⊥) → under (parent_of k) d q ≡ false) → (q ≤ d) × Built k size d sums t₂ u₂
@@ -121,7 +122,7 @@ row_most = 200 * 1048576
 
 module _ (k : Records) (size : ℕ) (sums : List ℕ) (rows first : ℕ) (whole : Bool) where
   -- q is next, after m splits were counted: all rows after it are built, or those on the path from the first
-  pub record Going (near q : ℕ) (t t₁ u u₁ g₁ : List ℕ) (m : ℕ) : Type 0 where
+  pub record Going (near q : ℕ) (t t₁ u u₁ : List ℕ) (g₁ : List Key) (m : ℕ) : Type 0 where
     pub within : q < k.cabinets
     pub before : q ≤ first
     pub few : m ≤ (first - q) * row_most
@@ -130,7 +131,7 @@ module _ (k : Records) (size : ℕ) (sums : List ℕ) (rows first : ℕ) (whole 
     pub path : whole ≡ false → Climbing k size sums rows first near q t t₁ u u₁ g₁
 
   module _ (falls : Falls (parent_of k)) (row_size : size ≡ 2 ^ k.services) (two : 2 ≤ rows) where
-    pub going_start : first < k.cabinets → (whole ≡ true → first + 1 ≡ k.cabinets) → (t u g : List ℕ) → Going 1 first t t u u g 0
+    pub going_start : first < k.cabinets → (whole ≡ true → first + 1 ≡ k.cabinets) → (t u : List ℕ) (g : List Key) → Going 1 first t t u u g 0
     going_start l all t u g = record {
       within = l;
       before = omega arith;
@@ -141,7 +142,7 @@ module _ (k : Records) (size : ℕ) (sums : List ℕ) (rows first : ℕ) (whole 
     }
 
     -- what a row's rebuilding asks of the keys kept
-    pub going_kept : {near q : ℕ} {t t₁ u u₁ g : List ℕ} {m : ℕ} → rows * (2 * size) ≤ length g → Going near q t t₁ u u₁ g m → KeysKept k size q rows near u₁ g
+    pub going_kept : {near q : ℕ} {t t₁ u u₁ : List ℕ} {g : List Key} {m : ℕ} → rows * size ≤ length g → Going near q t t₁ u u₁ g m → KeysKept k size q rows near u₁ g
     going_kept {near} {q} {t} {t₁} {u} {u₁} {g} {m} places G = go whole refl
       where
         go : (b : Bool) → whole ≡ b → KeysKept k size q rows near u₁ g
@@ -150,7 +151,7 @@ module _ (k : Records) (size : ℕ) (sums : List ℕ) (rows first : ℕ) (whole 
             record { some_rows = omega arith; no_more = G.no_more; places = places; keys = λ d x h l close i. K.keys d x h l (omega (arith, G.no_more)) i }
         go false w = climb_kept k size sums rows first two places (G.path w)
 
-    module _ {near q : ℕ} {t t₁ t₂ u u₁ u₂ g₁ g₂ : List ℕ} {m n : ℕ} (G : Going near q t t₁ u u₁ g₁ m)
+    module _ {near q : ℕ} {t t₁ t₂ u u₁ u₂ : List ℕ} {g₁ g₂ : List Key} {m n : ℕ} (G : Going near q t t₁ u u₁ g₁ m)
         (B : Rebuilds (source k size q sums t₁ u₁) size q (q % rows) k.cabinets t₁ t₂ u₁ u₂ g₁ g₂ n) where
       -- one row more of the whole table
       row_more : whole ≡ true → From k size sums rows q t t₂ u u₂ g₂ (m + n)
@@ -188,16 +189,3 @@ module _ (k : Records) (size : ℕ) (sums : List ℕ) (rows first : ℕ) (whole 
         table = λ w. from_all k size sums falls row_size rows t t₂ u u₂ g₂ (m + n) (subst (λ (j : ℕ). From k size sums rows j t t₂ u u₂ g₂ (m + n)) z (row_more w));
         path = λ w. climb_end k size sums rows first falls row_size (G.path w) B z;
       }
-
--- ---- the tests at the head
-
-module _ (k : Records) (e : ℕ) (sums t u : List ℕ) where
-  -- a test failed
-  pub left_alone : (climbable k e (length sums) (length t) (length u) ≡ true → ⊥) → ClimbsRows k e sums t t u u
-  left_alone n = record { done = λ z. absurd (n z); left = λ z. (refl, refl) }
-
-  -- none failed
-  pub climbed : {size : ℕ} {t₁ u₁ : List ℕ} → size ≡ 2 ^ k.services → climbable k e (length sums) (length t) (length u) ≡ true
-      → Climbs k size e sums t t₁ u u₁ → ClimbsRows k e sums t t₁ u u₁
-  climbed {size} {t₁} {u₁} z w F =
-      record { done = λ q. subst (λ (y : ℕ). Climbs k y e sums t t₁ u u₁) z F; left = λ q. clash (sym w ∙ q) }

@@ -15,6 +15,7 @@ use Rattle.subsets.specs.Inner.Net.{Falls}
 use Rattle.subsets.specs.Inner.Rows.{child}
 use Rattle.subsets.specs.Inner.Keys.{key_at, key_parts}
 use Rattle.subsets.specs.Inner.Folds.{plus}
+use Rattle.subsets.specs.declared.Key.{Key}
 use Rattle.subsets.specs.Inner.Rebuild as rebuild
 use Rattle.subsets.specs.Inner.Rebuild.{Source, rebuilt_row, rebuilt_key, rebuilt_choice, rebuilt_count}
 use Rattle.subsets.proofs.Rows.{child_parent}
@@ -37,7 +38,7 @@ module _ (k : Records) (size : ℕ) (sums : List ℕ) where
   row_count t u d = rebuilt_count (source k size d sums t u) size k.cabinets
 
   -- the rows from p on are built, and the keys of the first of them are kept
-  pub record From (rows p : ℕ) (t t₁ u u₁ g₁ : List ℕ) (m : ℕ) : Type 0 where
+  pub record From (rows p : ℕ) (t t₁ u u₁ : List ℕ) (g₁ : List Key) (m : ℕ) : Type 0 where
     pub within : p ≤ k.cabinets
     pub built : (d : ℕ) → p ≤ d → d < k.cabinets → Built k size d sums t₁ u₁
     pub root : (x : ℕ) → x < size → entry size u₁ 0 x ≡ entry size u 0 x
@@ -54,7 +55,7 @@ module _ (k : Records) (size : ℕ) (sums : List ℕ) (falls : Falls (parent_of 
       (λ e. let w = child_parent (tree k) p c e in both (ltb p c) _ (lt-ltb p c (omega (arith, falls c w.0, w.1))) (both_r (ltb 0 c) _ e))
 
   -- the row of p rebuilt, with all its children
-  module _ (p q : ℕ) (t t₁ u u₁ g g₁ : List ℕ) (m : ℕ) (here : p < k.cabinets) (B : Rebuilds (source k size p sums t u) size p q k.cabinets t t₁ u u₁ g g₁ m) where
+  module _ (p q : ℕ) (t t₁ u u₁ : List ℕ) (g g₁ : List Key) (m : ℕ) (here : p < k.cabinets) (B : Rebuilds (source k size p sums t u) size p q k.cabinets t t₁ u u₁ g g₁ m) where
     abbrev S : Source
     S = source k size p sums t u
 
@@ -134,7 +135,7 @@ module _ (k : Records) (size : ℕ) (sums : List ℕ) (falls : Falls (parent_of 
     kept_now x h = B.keys.row x h ∙ keys_now k.cabinets x (omega arith) h
 
   -- nothing is built yet
-  pub from_start : (rows : ℕ) (t u g : List ℕ) → From k size sums rows k.cabinets t t u u g 0
+  pub from_start : (rows : ℕ) (t u : List ℕ) (g : List Key) → From k size sums rows k.cabinets t t u u g 0
   unfolding only
   from_start rows t u g = record {
     within = omega arith;
@@ -146,7 +147,7 @@ module _ (k : Records) (size : ℕ) (sums : List ℕ) (falls : Falls (parent_of 
   }
 
   -- what a row's rebuilding asks of the keys kept
-  pub from_kept : (rows p : ℕ) (t t₁ u u₁ g : List ℕ) (m : ℕ) → 0 < rows → rows * (2 * size) ≤ length g → From k size sums rows (suc p) t t₁ u u₁ g m → KeysKept k size p rows rows u₁ g
+  pub from_kept : (rows p : ℕ) (t t₁ u u₁ : List ℕ) (g : List Key) (m : ℕ) → 0 < rows → rows * size ≤ length g → From k size sums rows (suc p) t t₁ u u₁ g m → KeysKept k size p rows rows u₁ g
   from_kept rows p t t₁ u u₁ g m z places F =
       record { some_rows = z; no_more = omega arith; places = places; keys = λ d x h l near i. F.keys d x (omega arith) l (omega arith) i }
 
@@ -170,7 +171,7 @@ module _ (k : Records) (size : ℕ) (sums : List ℕ) (falls : Falls (parent_of 
       go d i false q false w = let y = leb-false p d w in rw (lt-leb (suc p) d (omega arith), q, w) refl
 
   -- one row more
-  pub from_next : (rows p : ℕ) (t t₁ t₂ u u₁ u₂ g₁ g₂ : List ℕ) (m n : ℕ) → 0 < rows → From k size sums rows (suc p) t t₁ u u₁ g₁ m
+  pub from_next : (rows p : ℕ) (t t₁ t₂ u u₁ u₂ : List ℕ) (g₁ g₂ : List Key) (m n : ℕ) → 0 < rows → From k size sums rows (suc p) t t₁ u u₁ g₁ m
       → Rebuilds (source k size p sums t₁ u₁) size p (p % rows) k.cabinets t₁ t₂ u₁ u₂ g₁ g₂ n → From k size sums rows p t t₂ u u₂ g₂ (m + n)
   from_next rows p t t₁ t₂ u u₁ u₂ g₁ g₂ m n z F B = record {
     within = omega (arith, F.within);
@@ -196,11 +197,10 @@ module _ (k : Records) (size : ℕ) (sums : List ℕ) (falls : Falls (parent_of 
       is_kept d x l i near h false e =
           let y = eqb-false d p e in
           let apart : (d % rows ≡ p % rows → ⊥) = slot_apart rows p d z (omega arith) (omega arith) in
-          key_is _ _ (B.keys.rest (d % rows) (2 * x) apart (omega arith)) (B.keys.rest (d % rows) (2 * x + 1) apart (omega arith))
-          ∙ F.keys d x (omega arith) i (omega arith) h ∙ key_stays p (p % rows) t₁ t₂ u₁ u₂ g₁ g₂ n F.within B d x (omega arith) h
+          B.keys.rest (d % rows) x apart h ∙ F.keys d x (omega arith) i (omega arith) h ∙ key_stays p (p % rows) t₁ t₂ u₁ u₂ g₁ g₂ n F.within B d x (omega arith) h
 
   -- all rows are built
-  pub from_all : (rows : ℕ) (t t₁ u u₁ g : List ℕ) (m : ℕ) → From k size sums rows 0 t t₁ u u₁ g m → Fills k size sums t t₁ u u₁ m
+  pub from_all : (rows : ℕ) (t t₁ u u₁ : List ℕ) (g : List Key) (m : ℕ) → From k size sums rows 0 t t₁ u u₁ g m → Fills k size sums t t₁ u u₁ m
   unfolding only
   from_all rows t t₁ u u₁ g m F = record {
     rows = λ p l. F.built p (omega arith) l;

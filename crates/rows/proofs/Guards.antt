@@ -3,8 +3,8 @@ use Prim.Native.Nat.{ℕ, ◌-◌, ◌*◌, ◌^◌, ◌≤◌, ◌<◌}
 use native.Mathlib.Nat.{pow-le-pow_right}
 use native.Mathlib.Omega.{arith}
 use mathlib.Core.Logic.{⊎_elim}
-use mathlib.Core.Path.{◌≡◌, refl, sym, ap, ◌∙◌, subst}
-use mathlib.Core.Bool.{Bool, true, false, not}
+use mathlib.Core.Path.{◌≡◌, refl, sym, ◌∙◌, subst}
+use mathlib.Core.Bool.{Bool, true, false}
 use mathlib.Core.List.{List}
 use lib.Dec.{leb, ltb}
 use lib.ListN.{length, get_or}
@@ -17,6 +17,8 @@ use Rattle.finite.proofs.Tests.{all_at}
 use Rattle.subsets.specs.Inner.Keys.{key_parts}
 use Rattle.subsets.specs.declared.Key.{Key}
 use Rattle.sheet.specs.Limits.{max_services, max_cabinets}
+use Rattle.rows.specs.declared.children.Children.{Children}
+use Rattle.rows.specs.declared.keys.Weight.{Weight}
 use Rattle.records.specs.declared.Records.{Records}
 use Rattle.rows.specs.Cabinets as cabinets
 use Rattle.rows.specs.Cabinets.{field, falling}
@@ -24,17 +26,8 @@ use Rattle.rows.specs.Charges.{max_sets, all_sums}
 use Rattle.rows.specs.Keys.{base, low_digits, tree}
 use Rattle.rows.specs.Reads.{ListsOf, Weighted, Readable, Started}
 use Rattle.rows.specs.Rebuilds as rebuilds
-use Rattle.rows.specs.Rebuilds.{entry, has_rows, RebuildRoom, Scratch, FillRoom, Fills, FillsRows, fillable, has_root_key, RootKey}
-use Rattle.rows.proofs.Slots.{key_places}
+use Rattle.rows.specs.Rebuilds.{entry, has_rows, RebuildRoom, FillRoom, Fills, FillsRows, fillable, has_root_key, RootKey}
 use Rattle.rows.proofs.Rebuilding.{field_at}
-
--- a test passed, and one that failed
-pub held : (b : Bool) → not b ≡ false → b ≡ true
-held true e = refl
-held false e = clash e
-
-pub failed : (b : Bool) → not b ≡ true → b ≡ true → ⊥
-failed b e q = clash (sym e ∙ ap not q)
 
 -- what holds of 0 and of the first n fields holds of every field
 pub field_all : (P : ℕ → Type 0) (n : ℕ) (l : List ℕ) (i : ℕ) → P 0 → (i < n → P (get_or l i 0)) → P (field n l i)
@@ -75,10 +68,6 @@ passed r s sums costs choices e =
     }
 
 module _ (k : Records) (sums t u : List ℕ) where
-  -- a test failed
-  pub left_alone : (fillable k (length sums) (length t) (length u) ≡ true → ⊥) → FillsRows k sums t t u u 0
-  left_alone n = record { done = λ e. absurd (n e); left = λ e. (refl, refl, refl) }
-
   -- there is no row to fill
   pub no_rows : k.cabinets < 1 → Fills k (2 ^ k.services) sums t t u u 0
   no_rows h = record {
@@ -88,28 +77,28 @@ module _ (k : Records) (sums t u : List ℕ) where
     count = sym (sum_zero k.cabinets _ (λ d l. absurd (omega arith)));
   }
 
-  -- none failed
+  -- the rows are filled, where they can be
   pub filled : {size : ℕ} {t₁ u₁ : List ℕ} {m : ℕ} → size ≡ 2 ^ k.services → fillable k (length sums) (length t) (length u) ≡ true
       → Fills k size sums t t₁ u u₁ m → FillsRows k sums t t₁ u u₁ m
   filled {size} {t₁} {u₁} {m} e w F =
       record { done = λ q. subst (λ (z : ℕ). Fills k z sums t t₁ u u₁ m) e F; left = λ q. clash (sym w ∙ q) }
 
   -- all that filling asks for
-  pub in_room : {size : ℕ} {last prior : List ℕ} {is_tree : Bool} → size ≡ 2 ^ k.services → Passed k.services k.cabinets (length sums) (length t) (length u)
-      → ListsOf k.cabinets k.parent last prior is_tree → is_tree ≡ true → FillRoom k size t u sums last prior
-  in_room {size} {last} {prior} {is_tree} e P L q = record {
+  pub in_room : {size : ℕ} {lists : Children} → size ≡ 2 ^ k.services → Passed k.services k.cabinets (length sums) (length t) (length u)
+      → ListsOf k.cabinets k.parent lists → FillRoom k size t u sums lists
+  in_room {size} {lists} e P L = record {
     services = P.services;
     cabinets = P.cabinets;
     row_size = e;
     costs = subst (λ (z : ℕ). k.cabinets * z ≤ length t) (sym e) P.for_costs;
     choices = subst (λ (z : ℕ). k.cabinets * z ≤ length u) (sym e) P.for_choices;
     all_there = P.for_sums;
-    falls = parent_lt k.cabinets k.parent (sym L.tested ∙ q);
-    links = L.linked q (tree k) refl (λ c z l. sym (field_at k.cabinets k.parent c l));
+    falls = parent_lt k.cabinets k.parent L.tested;
+    links = L.linked (tree k) refl (λ c z l. sym (field_at k.cabinets k.parent c l));
   }
 
 -- what filling asks for is what each row's rebuilding asks for
-module _ {k : Records} {size : ℕ} {t u sums last prior : List ℕ} (P : FillRoom k size t u sums last prior) where
+module _ {k : Records} {size : ℕ} {t u sums : List ℕ} {lists : Children} (P : FillRoom k size t u sums lists) where
   -- a row has an entry for each set
   pub row_sets : (0 < size) × (size ≤ max_sets)
   row_sets = (omega (arith, P.row_size, pow_pos k.services), omega (arith, P.row_size, let z : 2 ^ k.services ≤ 2 ^ max_services = pow-le-pow_right {n = 2} (omega arith) P.services in z))
@@ -118,11 +107,7 @@ module _ {k : Records} {size : ℕ} {t u sums last prior : List ℕ} (P : FillRo
   row_rebuilt p h t₁ u₁ lt lu =
       record { sets = row_sets.1; cabinet = h; cabinets = P.cabinets; costs = omega (arith, P.costs); choices = omega (arith, P.choices) }
 
-  pub row_scratch : (child link kid : List ℕ) → length child ≡ max_sets → length link ≡ max_sets → length kid ≡ key_places → Scratch size child link kid sums
-  row_scratch child link kid lc ll lk =
-      record { for_child = omega (arith, row_sets); for_link = omega (arith, row_sets); for_keys = omega (arith, row_sets); for_sums = P.all_there }
-
-  pub row_readable : (u₁ weights : List ℕ) → length u₁ ≡ length u → Weighted k.services size weights → 2 * size ≤ length weights → Readable (tree k) size u₁ last prior weights
+  pub row_readable : (u₁ : List ℕ) (weights : List Weight) → length u₁ ≡ length u → Weighted k.services size weights → size ≤ length weights → Readable (tree k) size u₁ lists weights
   row_readable u₁ weights lu W lw = record {
     falls = P.falls;
     nodes = P.cabinets;
@@ -135,11 +120,7 @@ module _ {k : Records} {size : ℕ} {t u sums last prior : List ℕ} (P : FillRo
   }
 
 module _ (k : Records) (u : List ℕ) where
-  -- a test failed, so that no key is read
-  pub no_key : (has_root_key k (length u) ≡ true → ⊥) → RootKey k u (record { high = 0; low = 0 })
-  no_key n = record { done = λ e. absurd (n e); left = λ e. refl }
-
-  -- none failed
+  -- the key read is the root's, where the table can be read back
   pub root_keyed : {size : ℕ} {a : Key} → size ≡ 2 ^ k.services → has_root_key k (length u) ≡ true
       → a ≡ key_parts base low_digits (tree k) (entry size u) 0 k.cabinets (size - 1) → RootKey k u a
   unfolding rebuilds.back_key
@@ -149,23 +130,23 @@ module _ (k : Records) (u : List ℕ) where
   }
 
   -- all that reading back asks for
-  pub root_readable : {size : ℕ} {last prior weights : List ℕ} {is_tree : Bool} → size ≡ 2 ^ k.services
-      → Passed k.services k.cabinets all_sums (length u) (length u) → ListsOf k.cabinets k.parent last prior is_tree → is_tree ≡ true
-      → Weighted k.services size weights → 2 * size ≤ length weights → Readable (tree k) size u last prior weights
-  root_readable {size} e P L q W n = record {
-    falls = parent_lt k.cabinets k.parent (sym L.tested ∙ q);
+  pub root_readable : {size : ℕ} {lists : Children} {weights : List Weight} → size ≡ 2 ^ k.services
+      → Passed k.services k.cabinets all_sums (length u) (length u) → ListsOf k.cabinets k.parent lists
+      → Weighted k.services size weights → size ≤ length weights → Readable (tree k) size u lists weights
+  root_readable {size} e P L W n = record {
+    falls = parent_lt k.cabinets k.parent L.tested;
     nodes = P.cabinets;
     services = P.services;
     row_size = e;
     choices = subst (λ (z : ℕ). k.cabinets * z ≤ length u) (sym e) P.for_choices;
-    links = L.linked q (tree k) refl (λ c z l. sym (field_at k.cabinets k.parent c l));
+    links = L.linked (tree k) refl (λ c z l. sym (field_at k.cabinets k.parent c l));
     weighted = W;
     weights_length = n;
   }
 
   -- the walk starts at the root, its last child and all services
-  pub root_started : {size c : ℕ} {last prior weights : List ℕ} → 1 ≤ k.cabinets → c ≡ get_or last 0 0
-      → Readable (tree k) size u last prior weights → Started (tree k) size k.cabinets 0 c (size - 1)
+  pub root_started : {size c : ℕ} {lists : Children} {weights : List Weight} → 1 ≤ k.cabinets → c ≡ get_or lists.last 0 0
+      → Readable (tree k) size u lists weights → Started (tree k) size k.cabinets 0 c (size - 1)
   root_started {size} z e R = record {
     node = z;
     inside = omega arith;

@@ -1,6 +1,5 @@
 -- What the proofs of the code share.
 mod Joining
-mod Written
 mod Weighing
 mod Linking
 pub mod Parted

@@ -23,9 +23,11 @@ use Rattle.subsets.proofs.KeyRows.{key_empty, key_last_child, key_no_child, key_
 use Rattle.sheet.specs.Limits.{max_services, max_cabinets}
 use Rattle.rows.specs.Charges.{max_sets}
 use Rattle.rows.specs.Keys as key-rows
-use Rattle.rows.specs.Keys.{base, low_digits, set_weight}
+use Rattle.rows.specs.Keys.{base, low_digits, weight_at, set_weight}
 use Rattle.rows.specs.Reads.{Readable, Started}
 use Rattle.rows.specs.Rebuilds.{entry}
+use Rattle.rows.specs.declared.children.Children.{Children}
+use Rattle.rows.specs.declared.keys.Weight.{Weight}
 use Rattle.rows.proofs.Paired.{key_is}
 
 -- the weights of both parts
@@ -74,7 +76,7 @@ last_lt N p k z h = go (dec_lt 0 (last_child N p k))
     go (yes l) = let m : last_child N p k < k = (last_child_is N p k l).1 in omega arith
     go (no l) = omega arith
 
-module _ (N : Net) (size : ℕ) (u last prior weights : List ℕ) (R : Readable N size u last prior weights) where
+module _ (N : Net) (size : ℕ) (u : List ℕ) (lists : Children) (weights : List Weight) (R : Readable N size u lists weights) where
   -- a row has no more entries than there can be sets
   pub size_le : size ≤ max_sets
   size_le = omega (arith, R.row_size, pow-le-pow_right {n = 2} (let z : 0 < 2 = omega arith in z) {i = N.r} {j = max_services} R.services)
@@ -91,11 +93,11 @@ module _ (N : Net) (size : ℕ) (u last prior weights : List ℕ) (R : Readable 
   )
 
   -- the last child of a node is a node, or 0, which is one too
-  pub last_in : (p : ℕ) → p < N.s → get_or last p 0 < N.s
+  pub last_in : (p : ℕ) → p < N.s → get_or lists.last p 0 < N.s
   last_in p h = omega (arith, R.links.lasts p h, last_lt N p N.s (omega arith) (omega arith))
 
   -- no child comes after it
-  pub after_last : (p d : ℕ) → p < N.s → get_or last p 0 < d → d < N.s → N.parent d ≡ p → ⊥
+  pub after_last : (p d : ℕ) → p < N.s → get_or lists.last p 0 < d → d < N.s → N.parent d ≡ p → ⊥
   after_last p d h l m e = clash (sym (both (ltb 0 d) _ (lt-ltb 0 d (omega arith)) (eq-eqb (N.parent d) p e)) ∙ go (dec_lt 0 (last_child N p N.s)))
     where
       go : Dec (0 < last_child N p N.s) → child N p d ≡ false
@@ -125,6 +127,9 @@ module _ (N : Net) (size : ℕ) (u last prior weights : List ℕ) (R : Readable 
           let l : last_child N here G.bound < G.bound = h.1 in
           (e, omega (arith, G.next, G.inside), omega (arith, R.falls c q.0, q.1), q.1)
 
+      pub child_small : 0 < c → c < max_cabinets
+      child_small z = omega (arith, (is_child z).1, R.nodes)
+
       -- its row is in the table
       pub in_table : 0 < c → c * size + set < length u
       in_table z = omega (arith, R.choices, (is_child z).1, G.left, mul-le-mul_right {m = suc c} {n = N.s} size (is_child z).1)
@@ -133,17 +138,17 @@ module _ (N : Net) (size : ℕ) (u last prior weights : List ℕ) (R : Readable 
       index_small z = omega (arith, table_small, (is_child z).1, G.left, mul-le-mul_right {m = suc c} {n = N.s} size (is_child z).1)
 
       -- the sibling before it, and its own last child
-      prior_is : 0 < c → get_or prior c 0 ≡ last_child N here c
+      prior_is : 0 < c → get_or lists.prior c 0 ≡ last_child N here c
       prior_is z = R.links.priors c z (is_child z).1 ∙ ap (λ (d : ℕ). last_child N d c) (is_child z).3
 
-      pub prior_less : 0 < c → get_or prior c 0 < c
+      pub prior_less : 0 < c → get_or lists.prior c 0 < c
       prior_less z = omega (arith, prior_is z, go (dec_lt 0 (last_child N here c)))
         where
           go : Dec (0 < last_child N here c) → last_child N here c < c
           go (yes l) = (last_child_is N here c l).1
           go (no l) = omega arith
 
-      pub last_small : 0 < c → get_or last c 0 < max_cabinets
+      pub last_small : 0 < c → get_or lists.last c 0 < max_cabinets
       last_small z = omega (arith, last_in c (is_child z).1, R.nodes)
 
       -- what is left here, and what goes to the child
@@ -161,7 +166,7 @@ module _ (N : Net) (size : ℕ) (u last prior weights : List ℕ) (R : Readable 
         stays_le = omega (arith, e, sub_le (bit_and (entry size u c set) set) set (sub_and (entry size u c set) set))
 
         -- nothing goes to the child: it is passed
-        pub pass : set - stays ≡ 0 → Going N u size k p x a b here (get_or prior c 0) set
+        pub pass : set - stays ≡ 0 → Going N u size k p x a b here (get_or lists.prior c 0) set
         pass q = record {
           node = G.node;
           bound = c;
@@ -180,7 +185,7 @@ module _ (N : Net) (size : ℕ) (u last prior weights : List ℕ) (R : Readable 
                 omega (arith, h, none N y size u c N.s (set - stays) q, ap (λ (n : ℕ). part N y size u here c n) all)
 
         -- the walk goes on under the child, where those that stay have these sums
-        go_on : (i j : ℕ) → part N (firsts N.r) size u here c stays ≡ i → part N (others N.r) size u here c stays ≡ j → Going N u size k p x (a + i) (b + j) c (get_or last c 0) (set - stays)
+        go_on : (i j : ℕ) → part N (firsts N.r) size u here c stays ≡ i → part N (others N.r) size u here c stays ≡ j → Going N u size k p x (a + i) (b + j) c (get_or lists.last c 0) (set - stays)
         go_on i j f h = record {
           node = (is_child z).1;
           bound = N.s;
@@ -193,17 +198,17 @@ module _ (N : Net) (size : ℕ) (u last prior weights : List ℕ) (R : Readable 
         }
 
         -- nothing stays
-        pub descend : stays ≡ 0 → Going N u size k p x a b c (get_or last c 0) (set - stays)
+        pub descend : stays ≡ 0 → Going N u size k p x a b c (get_or lists.last c 0) (set - stays)
         descend q =
             rw (let y : a ≡ a + 0 = omega arith in y, let y : b ≡ b + 0 = omega arith in y)
             (go_on 0 0 (none N (firsts N.r) size u here c stays q) (none N (others N.r) size u here c stays q))
 
         -- some stay, and are read for themselves
-        pub sibling : Started N size c here (get_or prior c 0) stays
+        pub sibling : Started N size c here (get_or lists.prior c 0) stays
         sibling = record { node = G.node; inside = omega (arith, (is_child z).1); first = prior_is z; set = omega (arith, stays_le, G.left) }
 
         module _ (y : Key) (f : y ≡ key_parts base low_digits N (entry size u) here c stays) where
-          pub divide : Going N u size k p x (a + y.high) (b + y.low) c (get_or last c 0) (set - stays)
+          pub divide : Going N u size k p x (a + y.high) (b + y.low) c (get_or lists.last c 0) (set - stays)
           divide = go_on y.high y.low (sym (ap (λ (k : Key). k.high) f)) (sym (ap (λ (k : Key). k.low) f))
 
           -- the sums stay small
@@ -213,11 +218,11 @@ module _ (N : Net) (size : ℕ) (u last prior weights : List ℕ) (R : Readable 
               (omega (arith, D.high_total, (parts_small p k x B.node B.inside).0), omega (arith, D.low_total, (parts_small p k x B.node B.inside).1))
 
       -- no child is left
-      finish : c ≡ 0 → (a + get_or weights (2 * set) 0 * here ≡ part N (firsts N.r) size u p k x) × (b + get_or weights (2 * set + 1) 0 * here ≡ part N (others N.r) size u p k x)
+      finish : c ≡ 0 → (a + (weight_at weights set).high * here ≡ part N (firsts N.r) size u p k x) × (b + (weight_at weights set).low * here ≡ part N (others N.r) size u p k x)
       unfolding key-rows.set_weight
       finish e = (
-        at (firsts N.r) (get_or weights (2 * set) 0) a (ap (λ (y : Key). y.high) (R.weighted set G.left)) G.high_total,
-        at (others N.r) (get_or weights (2 * set + 1) 0) b (ap (λ (y : Key). y.low) (R.weighted set G.left)) G.low_total,
+        at (firsts N.r) (weight_at weights set).high a (ap (λ (y : Key). y.high) (R.weighted set G.left)) G.high_total,
+        at (others N.r) (weight_at weights set).low b (ap (λ (y : Key). y.low) (R.weighted set G.left)) G.low_total,
       )
         where
           at : (y : ℕ → ℕ) (w sum : ℕ) → w ≡ key N.r y set (λ i. 1) → sum + part N y size u here G.bound set ≡ part N y size u p k x → sum + w * here ≡ part N y size u p k x
@@ -226,10 +231,10 @@ module _ (N : Net) (size : ℕ) (u last prior weights : List ℕ) (R : Readable 
               ∙ ap (λ (n : ℕ). sum + n) (sym (key_no_child N y (entry size u) R.falls here G.bound set (sym G.next ∙ e))) ∙ total
 
       -- so the sums fit
-      pub finish_small : c ≡ 0 → (a + get_or weights (2 * set) 0 * here < 2 ^ 40) × (b + get_or weights (2 * set + 1) 0 * here < 2 ^ 40)
+      pub finish_small : c ≡ 0 → (a + (weight_at weights set).high * here < 2 ^ 40) × (b + (weight_at weights set).low * here < 2 ^ 40)
       finish_small e = (omega (arith, (finish e).0, (parts_small p k x B.node B.inside).0), omega (arith, (finish e).1, (parts_small p k x B.node B.inside).1))
 
       -- and they are the key
-      pub finished : c ≡ 0 → (key : Key) → key.high ≡ a + get_or weights (2 * set) 0 * here → key.low ≡ b + get_or weights (2 * set + 1) 0 * here
+      pub finished : c ≡ 0 → (key : Key) → key.high ≡ a + (weight_at weights set).high * here → key.low ≡ b + (weight_at weights set).low * here
           → key ≡ key_parts base low_digits N (entry size u) p k x
       finished e key eh el = key_is _ _ (eh ∙ (finish e).0) (el ∙ (finish e).1)

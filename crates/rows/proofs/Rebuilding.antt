@@ -1,9 +1,8 @@
 -- A row rebuilt: its own charges and keys, then child by child, whatever the tables hold.
-use Prim.Native.Nat.{ℕ, zero, suc, ◌+◌, ◌-◌, ◌*◌, ◌/◌, ◌%◌, ◌^◌, ◌≤◌, ◌<◌}
+use Prim.Native.Nat.{ℕ, zero, suc, ◌+◌, ◌-◌, ◌*◌, ◌%◌, ◌^◌, ◌≤◌, ◌<◌}
 use native.Mathlib.Nat.{mul-le-mul, mul-le-mul_right}
 use native.Mathlib.Numerals.{add-one}
 use native.Mathlib.Omega.{arith}
-use native.Mathlib.Decide.{dec_lt}
 use mathlib.Core.Path.{◌≡◌, refl, sym, ap, ap₂, ◌∙◌, subst}
 use mathlib.Core.Bool.{Bool, true, false, cond}
 use mathlib.Core.List.{List}
@@ -25,17 +24,18 @@ use Rattle.subsets.proofs.KeyRows.{key_at_ext, parts_ext}
 use Rattle.subsets.proofs.Rebuild.{Agree, row_agrees, key_agrees, entry_agrees, count_agrees, by_key_ext, choice_le, rebuilt_join, rebuilt_pass, key_join, key_pass, count_join, count_pass, rebuilt_start, key_start, count_start, rebuilt_key_le}
 use Rattle.sheet.specs.Limits.{max_services, max_cabinets}
 use Rattle.rows.specs.Charges.{max_sets, own_figure, demanded}
-use Rattle.rows.specs.Keys.{base, low_digits, key_in, set_weight, times_key, tree}
+use Rattle.rows.specs.Keys.{base, low_digits, key_in, weight_at, set_weight, times_key, tree}
 use Rattle.rows.specs.Reads.{Weighted, Readable}
-use Rattle.rows.specs.Joins.{Small}
+use Rattle.rows.specs.Joins.{Addable, Small}
 use Rattle.rows.specs.Rebuilds as rebuilds
-use Rattle.rows.specs.Rebuilds.{entry, back_key, key_entry, RowSet, KeysSet, link_figures, source, Rebuilds, JoinsChild, JoinRoom, RebuildRoom, KeysKept}
+use Rattle.rows.specs.Rebuilds.{entry, back_key, key_entry, RowOf, RowSet, KeysSet, link_figures, source, Rebuilds, JoinsChild, JoinRoom, RebuildRoom, KeysKept}
 use Rattle.rows.specs.Cabinets.{field, parent_of, own_of, link_of}
+use Rattle.rows.specs.declared.children.Children.{Children}
+use Rattle.rows.specs.declared.keys.Weight.{Weight}
 use Rattle.records.specs.declared.Records.{Records}
 use Rattle.rows.proofs.Joining.{counted_le}
 use Rattle.rows.proofs.Weighing.{set_weight_le}
 use Rattle.rows.proofs.Parted.{row_of, put_row, row_length, put_length, row_put, row_within}
-use Rattle.rows.proofs.Paired.{key_is}
 use Rattle.rows.proofs.Slots.{slot_apart}
 use Rattle.rows.proofs.Reading.{parts_small}
 
@@ -61,7 +61,7 @@ unfolding link_of only
 link_there k c h = rw (lt-ltb c k.cabinets h) refl
 
 -- a row set twice
-row_again : (size p : ℕ) (f g : ℕ → ℕ) (t t₁ t₂ : List ℕ) → RowSet size p f t t₁ → RowSet size p g t₁ t₂ → RowSet size p g t t₂
+row_again : {A : Type 0} {none : A} (size p : ℕ) (f g : ℕ → A) (t t₁ t₂ : List A) → RowOf A none size p f t t₁ → RowOf A none size p g t₁ t₂ → RowOf A none size p g t t₂
 row_again size p f g t t₁ t₂ R S = record { row = S.row; rest = λ d x n h. S.rest d x n h ∙ R.rest d x n h }
 
 -- no more than a million splits are counted for one child
@@ -75,28 +75,11 @@ count_le S size k l h =
           (λ c m. omega (arith, only_le (S.child c) (join_count S size c), counted_le (rebuilt_row S c) (S.row c) (S.link c) size l)),
     )
 
--- keys set twice
-keys_again : (size q : ℕ) (f h : ℕ → Key) (g g₁ g₂ : List ℕ) → KeysSet size q f g g₁ → KeysSet size q h g₁ g₂ → KeysSet size q h g g₂
-keys_again size q f h g g₁ g₂ R S = record { row = S.row; rest = λ d i n l. S.rest d i n l ∙ R.rest d i n l }
+-- ---- the keys of a cabinet alone are the weights of the sets, so many times over
 
--- ---- keys of sets, place by place
-
--- what bounds the keys of all sets bounds every place
-pub place_lt : (f : ℕ → ℕ) (size m : ℕ) → ((x : ℕ) → x < size → (f (2 * x) < m) × (f (2 * x + 1) < m)) → (i : ℕ) → i < 2 * size → f i < m
-place_lt f size m h i l = go (dec_lt (i % 2) 1)
-  where
-    at : ℕ
-    at = i / 2
-
-    go : Dec (i % 2 < 1) → f i < m
-    go (yes z) = subst (λ (j : ℕ). f j < m) (let e : 2 * at ≡ i = omega arith in e) (h at (omega arith)).0
-    go (no z) = subst (λ (j : ℕ). f j < m) (let e : 2 * at + 1 ≡ i = omega arith in e) (h at (omega arith)).1
-
--- the keys of a cabinet alone are the weights of the sets, so many times over
-module _ (r size p : ℕ) (weights : List ℕ) (few : r ≤ max_services) (here : p < max_cabinets) (W : Weighted r size weights) where
-  pub own_keyed : (ys : List ℕ) → ((i : ℕ) → i < 2 * size → get_or ys i 0 ≡ get_or weights i 0 * p) → (x : ℕ) → x < size → key_in ys x ≡ times_key (set_weight r x) p
-  own_keyed ys h x l =
-      key_is _ _ (h (2 * x) (omega arith) ∙ ap (λ (k : Key). k.high * p) (W x l)) (h (2 * x + 1) (omega arith) ∙ ap (λ (k : Key). k.low * p) (W x l))
+module _ (r size p : ℕ) (weights : List Weight) (few : r ≤ max_services) (here : p < max_cabinets) (W : Weighted r size weights) where
+  pub own_keyed : (ys : List Key) → ((x : ℕ) → x < size → key_in ys x ≡ times_key (weight_at weights x) p) → (x : ℕ) → x < size → key_in ys x ≡ times_key (set_weight r x) p
+  own_keyed ys h x l = h x l ∙ ap (λ (k : Key). times_key k p) (W x l)
 
   pub own_key_le : (x : ℕ) → ((times_key (set_weight r x) p).high ≤ 2 ^ 44) × ((times_key (set_weight r x) p).low ≤ 2 ^ 44)
   own_key_le x =
@@ -116,13 +99,13 @@ back_same k size u u₁ c falls z same x h =
     key_at_ext (tree k) v falls (entry size u) (entry size u₁) c (λ e y i j l o m. same e y i l (omega arith)) c k.cabinets x (omega arith) (omega arith) (omega arith))
 
 -- and they are small
-pub back_small : (k : Records) (size : ℕ) (u last prior weights : List ℕ) → Readable (tree k) size u last prior weights → (c x : ℕ) → c < k.cabinets
+pub back_small : (k : Records) (size : ℕ) (u : List ℕ) (lists : Children) (weights : List Weight) → Readable (tree k) size u lists weights → (c x : ℕ) → c < k.cabinets
     → ((back_key k size u c x).high < 2 ^ 40) × ((back_key k size u c x).low < 2 ^ 40)
 unfolding rebuilds.back_key
-back_small k size u last prior weights R c x h = parts_small (tree k) size u last prior weights R c k.cabinets x h (omega arith)
+back_small k size u lists weights R c x h = parts_small (tree k) size u lists weights R c k.cabinets x h (omega arith)
 
 -- ---- the loop over cabinets: those below c are passed or joined
-pub record Children (S : Source) (size p q c n : ℕ) (t t₁ u u₁ g g₁ : List ℕ) (count : ℕ) : Type 0 where
+pub record JoinedBelow (S : Source) (size p q c n : ℕ) (t t₁ u u₁ : List ℕ) (g g₁ : List Key) (count : ℕ) : Type 0 where
   pub after : p < c
   pub within : c ≤ n
   pub costs_length : length t₁ ≡ length t
@@ -137,7 +120,7 @@ module _ {k : Records} {size p : ℕ} {t u : List ℕ} (R : RebuildRoom k size p
       let w = row_within size k.cabinets h in
       (omega (arith, R.costs), omega (arith, R.choices), omega (arith, mul-le-mul R.cabinets R.sets))
 
-module _ (sums : List ℕ) {k : Records} {size p : ℕ} {t u : List ℕ} (R : RebuildRoom k size p t u) (q : ℕ) (g : List ℕ) where
+module _ (sums : List ℕ) {k : Records} {size p : ℕ} {t u : List ℕ} (R : RebuildRoom k size p t u) (q : ℕ) (g : List Key) where
   -- what the row is rebuilt from
   abbrev S : Source
   S = source k size p sums t u
@@ -147,8 +130,8 @@ module _ (sums : List ℕ) {k : Records} {size p : ℕ} {t u : List ℕ} (R : Re
   none_up_to c h = rw (le-ltb p c (omega arith)) refl
 
   -- the row of p holds its own charges and keys, and no child is joined yet
-  pub children_start : {g₁ : List ℕ} → length g₁ ≡ length g → ((x : ℕ) → x < size → entry size t p x ≡ S.own x) → KeysSet size q S.own_key g g₁
-      → Children S size p q (p + 1) k.cabinets t t u u g g₁ 0
+  pub children_start : {g₁ : List Key} → length g₁ ≡ length g → ((x : ℕ) → x < size → entry size t p x ≡ S.own x) → KeysSet size q S.own_key g g₁
+      → JoinedBelow S size p q (p + 1) k.cabinets t t u u g g₁ 0
   children_start long own K = record {
     after = omega arith;
     within = omega (arith, R.cabinet);
@@ -164,12 +147,12 @@ module _ (sums : List ℕ) {k : Records} {size p : ℕ} {t u : List ℕ} (R : Re
     });
   }
 
-  module _ {t₁ u₁ g₁ : List ℕ} {n c : ℕ} (C : Children S size p q c k.cabinets t t₁ u u₁ g g₁ n) (l : c < k.cabinets) where
+  module _ {t₁ u₁ : List ℕ} {g₁ : List Key} {n c : ℕ} (C : JoinedBelow S size p q c k.cabinets t t₁ u u₁ g g₁ n) (l : c < k.cabinets) where
     B : Rebuilds S size p q c t t₁ u u₁ g g₁ n
     B = C.rebuilds
 
     -- a cabinet that is no child is passed over
-    pub children_pass : (parent_of k c ≡ p → ⊥) → Children S size p q (c + 1) k.cabinets t t₁ u u₁ g g₁ n
+    pub children_pass : (parent_of k c ≡ p → ⊥) → JoinedBelow S size p q (c + 1) k.cabinets t t₁ u u₁ g g₁ n
     children_pass ne = record {
       after = omega (arith, C.after);
       within = omega arith;
@@ -189,7 +172,7 @@ module _ (sums : List ℕ) {k : Records} {size p : ℕ} {t u : List ℕ} (R : Re
         not = is_false (S.child c) (λ e. ne (eqb-true (parent_of k c) p (both_r (ltb p c) _ e)))
 
     -- a child can be joined
-    pub joinable : q * (2 * size) + 2 * size ≤ length g → k.services ≤ max_services → size ≡ 2 ^ k.services → JoinRoom size p c q t₁ u₁ g₁
+    pub joinable : q * size + size ≤ length g → k.services ≤ max_services → size ≡ 2 ^ k.services → JoinRoom size p c q t₁ u₁ g₁
     joinable room few power =
         let a = row_room R p R.cabinet in
         let b = row_room R c l in
@@ -207,9 +190,9 @@ module _ (sums : List ℕ) {k : Records} {size p : ℕ} {t u : List ℕ} (R : Re
     under_stays e x m h = B.kept e x (λ i. absurd (omega (arith, C.after, eqb-true (parent_of k e) p (both_r (ltb p e) _ i)))) h
 
     -- and is joined
-    pub children_join : parent_of k c ≡ p → (kid : ℕ → Key) → ((x : ℕ) → x < size → kid x ≡ S.key c x) → {t₂ u₂ g₂ : List ℕ} {m : ℕ}
+    pub children_join : parent_of k c ≡ p → (kid : ℕ → Key) → ((x : ℕ) → x < size → kid x ≡ S.key c x) → {t₂ u₂ : List ℕ} {g₂ : List Key} {m : ℕ}
         → JoinsChild (link_of k c) size p c q sums kid t₁ t₂ u₁ u₂ g₁ g₂ m → length t₂ ≡ length t₁ → length u₂ ≡ length u₁ → length g₂ ≡ length g₁
-        → Children S size p q (c + 1) k.cabinets t t₂ u u₂ g g₂ (n + m)
+        → JoinedBelow S size p q (c + 1) k.cabinets t t₂ u u₂ g g₂ (n + m)
     unfolding rebuild.rebuilt_choice rebuild.rebuilt_entry rebuild.join_count
     children_join parent kid kids {t₂} {u₂} {g₂} {m} J lt lu lg = record {
       after = omega (arith, C.after);
@@ -225,7 +208,7 @@ module _ (sums : List ℕ) {k : Records} {size p : ℕ} {t u : List ℕ} (R : Re
         });
         chosen = λ b x i e h. go b x i e h (eqb b c) refl;
         kept = λ b x f h. J.choices.rest b x (λ e. omega (arith, f (subst (λ (z : ℕ). S.child z ≡ true) (sym e) is))) h ∙ B.kept b x (λ e. omega (arith, f e)) h;
-        keys = keys_again size q _ _ g g₁ g₂ B.keys (record { row = λ x h. J.keys.row x h ∙ keyed x h ∙ sym (key_join S c x is); rest = J.keys.rest });
+        keys = row_again size q _ _ g g₁ g₂ B.keys (record { row = λ x h. J.keys.row x h ∙ keyed x h ∙ sym (key_join S c x is); rest = J.keys.rest });
         count = omega (arith, B.count, joined_count, count_join S size c is);
       });
     }
@@ -260,24 +243,24 @@ module _ (sums : List ℕ) {k : Records} {size p : ℕ} {t u : List ℕ} (R : Re
         go b x i e h false y = let z = eqb-false b c y in J.choices.rest b x z h ∙ B.chosen b x (omega (arith, z)) e h
 
   -- no cabinet from c on is a child: all are passed over, and the row is rebuilt
-  pub children_end : {t₁ u₁ g₁ : List ℕ} {n c : ℕ} → Children S size p q c k.cabinets t t₁ u u₁ g g₁ n → ((d : ℕ) → c ≤ d → d < k.cabinets → parent_of k d ≡ p → ⊥)
+  pub children_end : {t₁ u₁ : List ℕ} {g₁ : List Key} {n c : ℕ} → JoinedBelow S size p q c k.cabinets t t₁ u u₁ g g₁ n → ((d : ℕ) → c ≤ d → d < k.cabinets → parent_of k d ≡ p → ⊥)
       → Rebuilds S size p q k.cabinets t t₁ u u₁ g g₁ n
   children_end {t₁} {u₁} {g₁} {n} {c} C none =
       subst (λ (e : ℕ). Rebuilds S size p q e t t₁ u u₁ g g₁ n) (let z : c + (k.cabinets - c) ≡ k.cabinets = omega (arith, C.within) in z) (go (k.cabinets - c) (omega (arith, C.within))).rebuilds
     where
-      go : (j : ℕ) → c + j ≤ k.cabinets → Children S size p q (c + j) k.cabinets t t₁ u u₁ g g₁ n
-      go zero h = subst (λ (e : ℕ). Children S size p q e k.cabinets t t₁ u u₁ g g₁ n) (let z : c ≡ c + 0 = omega arith in z) C
+      go : (j : ℕ) → c + j ≤ k.cabinets → JoinedBelow S size p q (c + j) k.cabinets t t₁ u u₁ g g₁ n
+      go zero h = subst (λ (e : ℕ). JoinedBelow S size p q e k.cabinets t t₁ u u₁ g g₁ n) (let z : c ≡ c + 0 = omega arith in z) C
       go (suc j) h =
-          subst (λ (e : ℕ). Children S size p q e k.cabinets t t₁ u u₁ g g₁ n) (let z : c + j + 1 ≡ c + suc j = omega arith in z)
+          subst (λ (e : ℕ). JoinedBelow S size p q e k.cabinets t t₁ u u₁ g g₁ n) (let z : c + j + 1 ≡ c + suc j = omega arith in z)
           (children_pass (go j (omega arith)) (omega arith) (none (c + j) (omega arith) (omega arith)))
 
 -- ---- the keys of a child that is to be joined, and of the row so far
 
-module _ (sums : List ℕ) {k : Records} {size p rows near : ℕ} {t u g : List ℕ} (R : RebuildRoom k size p t u) (K : KeysKept k size p rows near u g)
-    {last prior weights : List ℕ} (D : Readable (tree k) size u last prior weights)
-    {t₁ u₁ g₁ : List ℕ} {n c : ℕ} (C : Children (source k size p sums t u) size p (p % rows) c k.cabinets t t₁ u u₁ g g₁ n) (l : c < k.cabinets) where
+module _ (sums : List ℕ) {k : Records} {size p rows near : ℕ} {t u : List ℕ} {g : List Key} (R : RebuildRoom k size p t u) (K : KeysKept k size p rows near u g)
+    {lists : Children} {weights : List Weight} (D : Readable (tree k) size u lists weights)
+    {t₁ u₁ : List ℕ} {g₁ : List Key} {n c : ℕ} (C : JoinedBelow (source k size p sums t u) size p (p % rows) c k.cabinets t t₁ u u₁ g g₁ n) (l : c < k.cabinets) where
   -- reading back still relies on the same
-  pub readable : Readable (tree k) size u₁ last prior weights
+  pub readable : Readable (tree k) size u₁ lists weights
   readable = record {
     falls = D.falls;
     nodes = D.nodes;
@@ -290,7 +273,7 @@ module _ (sums : List ℕ) {k : Records} {size p rows near : ℕ} {t u g : List 
   }
 
   -- kept or read back, the keys are those of the choices at the start
-  pub fetched : (kid : List ℕ)
+  pub fetched : (kid : List Key)
       → ((x : ℕ) → x < size → key_in kid x ≡ cond (ltb (c - p) near) (key_entry size g₁ (c % rows) x) (key_parts base low_digits (tree k) (entry size u₁) c k.cabinets x))
       → (x : ℕ) → x < size → key_in kid x ≡ back_key k size u c x
   unfolding rebuilds.back_key
@@ -300,29 +283,26 @@ module _ (sums : List ℕ) {k : Records} {size p rows near : ℕ} {t u g : List 
       go true e =
           let close : c - p < near = ltb-true (c - p) near e in
           let apart : (c % rows ≡ p % rows → ⊥) = slot_apart rows p c K.some_rows C.after (omega (arith, K.no_more)) in
-          key_is _ _ (C.rebuilds.keys.rest (c % rows) (2 * x) apart (omega arith)) (C.rebuilds.keys.rest (c % rows) (2 * x + 1) apart (omega arith))
-          ∙ K.keys c x C.after l close m
+          C.rebuilds.keys.rest (c % rows) x apart m ∙ K.keys c x C.after l close m
       go false e = back_same k size u₁ u c D.falls D.row_size (λ d y z i j. under_stays sums R (p % rows) g C l d y i j) x m
 
   -- they can be added to those of the row
-  pub kid_small : (kid : List ℕ) → ((x : ℕ) → x < size → key_in kid x ≡ back_key k size u c x) → Small size kid
-  kid_small kid h =
-      place_lt (λ i. get_or kid i 0) size (2 ^ 63) (λ x m.
-      let b = back_small k size u last prior weights D c x l in
-      (omega (arith, b.0, ap (λ (y : Key). y.high) (h x m)), omega (arith, b.1, ap (λ (y : Key). y.low) (h x m))))
+  pub kid_small : (kid : List Key) → ((x : ℕ) → x < size → key_in kid x ≡ back_key k size u c x) → Small size kid
+  kid_small kid h x m =
+      let b = back_small k size u lists weights D c x l in
+      (omega (arith, b.0, ap (λ (y : Key). y.high) (h x m)), omega (arith, b.1, ap (λ (y : Key). y.low) (h x m)))
 
   -- and so can those of the row
-  pub row_small : (i : ℕ) → i < 2 * size → entry (2 * size) g₁ (p % rows) i < 2 ^ 63
-  row_small =
-      place_lt (λ i. entry (2 * size) g₁ (p % rows) i) size (2 ^ 63) (λ x m.
+  pub row_small : (x : ℕ) → x < size → Addable (key_entry size g₁ (p % rows) x)
+  row_small x m =
       let b = rebuilt_key_le (source k size p sums t u) (2 ^ 44) size k.cabinets (λ y i. own_key_le k.services size p weights D.services (omega (arith, R.cabinet, R.cabinets)) D.weighted y)
-      (λ d y i e j. let s = back_small k size u last prior weights D d y i in (omega (arith, s.0), omega (arith, s.1))) c x C.within m in
+      (λ d y i e j. let s = back_small k size u lists weights D d y i in (omega (arith, s.0), omega (arith, s.1))) c x C.within m in
       let top : suc c * 2 ^ 44 ≤ suc max_cabinets * 2 ^ 44 = mul-le-mul_right {m = suc c} {n = suc max_cabinets} (2 ^ 44) (omega (arith, R.cabinets)) in
-      (omega (arith, b.0, top, ap (λ (y : Key). y.high) (C.rebuilds.keys.row x m)), omega (arith, b.1, top, ap (λ (y : Key). y.low) (C.rebuilds.keys.row x m))))
+      (omega (arith, b.0, top, ap (λ (y : Key). y.high) (C.rebuilds.keys.row x m)), omega (arith, b.1, top, ap (λ (y : Key). y.low) (C.rebuilds.keys.row x m)))
 
 -- ---- the keys of p alone: they are written in a row of their own, so that all that are kept stay
 
-pub kept_alone : {k : Records} {size p rows near : ℕ} {u g g₀ : List ℕ} {f : ℕ → Key}
+pub kept_alone : {k : Records} {size p rows near : ℕ} {u : List ℕ} {g g₀ : List Key} {f : ℕ → Key}
     → KeysKept k size p rows near u g → KeysSet size (p % rows) f g g₀ → length g₀ ≡ length g → KeysKept k size p rows near u g₀
 kept_alone {k} {size} {p} {rows} {near} K S e = record {
   some_rows = K.some_rows;
@@ -330,16 +310,16 @@ kept_alone {k} {size} {p} {rows} {near} K S e = record {
   places = omega (arith, K.places);
   keys = λ d x h l close m.
       let apart : (d % rows ≡ p % rows → ⊥) = slot_apart rows p d K.some_rows h (omega (arith, K.no_more)) in
-      key_is _ _ (S.rest (d % rows) (2 * x) apart (omega arith)) (S.rest (d % rows) (2 * x + 1) apart (omega arith)) ∙ K.keys d x h l close m;
+      S.rest (d % rows) x apart m ∙ K.keys d x h l close m;
 }
 
 -- the keys rebuilt from there are those rebuilt from before
-pub rebuilds_keyed : {S : Source} {size p q n : ℕ} {t t₁ u u₁ g g₀ g₁ : List ℕ} {m : ℕ} {f : ℕ → Key} → KeysSet size q f g g₀ → Rebuilds S size p q n t t₁ u u₁ g₀ g₁ m → Rebuilds S size p q n t t₁ u u₁ g g₁ m
+pub rebuilds_keyed : {S : Source} {size p q n : ℕ} {t t₁ u u₁ : List ℕ} {g g₀ g₁ : List Key} {m : ℕ} {f : ℕ → Key} → KeysSet size q f g g₀ → Rebuilds S size p q n t t₁ u u₁ g₀ g₁ m → Rebuilds S size p q n t t₁ u u₁ g g₁ m
 rebuilds_keyed {S} {size} {p} {q} {n} {t} {t₁} {u} {u₁} {g} {g₀} {g₁} K B = record {
   costs = B.costs;
   chosen = B.chosen;
   kept = B.kept;
-  keys = keys_again size q _ _ g g₀ g₁ K B.keys;
+  keys = row_again size q _ _ g g₀ g₁ K B.keys;
   count = B.count;
 }
 
@@ -358,11 +338,11 @@ alone {k} {size} {p} {sums} {t} {u} R ys same filled =
     let long = put_length size p t fits ys same in
     record {
       room = record { sets = R.sets; cabinet = R.cabinet; cabinets = R.cabinets; costs = omega (arith, long, R.costs); choices = R.choices };
-      own = row_put size p t fits ys same refl _ (λ x h. filled x (omega (arith, row_length size p t fits)));
+      own = row_put size p t fits ys same 0 _ (λ x h. filled x (omega (arith, row_length size p t fits)));
       same = long;
     }
 
-pub rebuilds_alone : {k : Records} {size p q n : ℕ} {sums t t₀ u : List ℕ} → Alone k size p sums t t₀ u → {t₁ u₁ g g₁ : List ℕ} {m : ℕ}
+pub rebuilds_alone : {k : Records} {size p q n : ℕ} {sums t t₀ u : List ℕ} → Alone k size p sums t t₀ u → {t₁ u₁ : List ℕ} {g g₁ : List Key} {m : ℕ}
     → Rebuilds (source k size p sums t₀ u) size p q n t₀ t₁ u u₁ g g₁ m → Rebuilds (source k size p sums t u) size p q n t t₁ u u₁ g g₁ m
 rebuilds_alone {k} {size} {p} {q} {n} {sums} {t} {t₀} {u} A {t₁} {u₁} {g} {g₁} {m} B = record {
   costs = row_again size p _ _ t t₀ t₁ A.own (record { row = λ x h. B.costs.row x h ∙ row_agrees size S₀ S₁ agree n x h; rest = B.costs.rest });

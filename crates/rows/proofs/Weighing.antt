@@ -1,25 +1,22 @@
 -- The weights of services and of sets of services, in two parts: no part is large, and a set's weight is summed service by service.
 use Prim.Native.Nat.{ℕ, ◌+◌, ◌-◌, ◌*◌, ◌^◌, ◌≤◌, ◌<◌}
-use native.Mathlib.Nat.{pow-suc, pow-le-pow_right}
-use native.Mathlib.Numerals.{add-one}
+use native.Mathlib.Nat.{pow-le-pow_right}
 use native.Mathlib.Omega.{arith}
 use mathlib.Core.Path.{◌≡◌, refl, sym, ap, ap₂, ◌∙◌, subst}
 use mathlib.Core.Bool.{Bool, true, false}
-use mathlib.Core.List.{List}
 use lib.Dec.{ltb, leb}
-use lib.ListN.{length, set}
 use borrow.Author.Tests.{ltb-true, lt-ltb, le-ltb, lt-leb, le-leb}
 use Rattle.finite.specs.Below.{only}
 use Rattle.finite.proofs.Sums.{sum_start, sum_next, sum_le, only_le}
 use Rattle.subsets.specs.Sets.{has}
+use Rattle.subsets.specs.Inner.Folds.{plus}
 use Rattle.subsets.specs.Inner.Keys.{weight, key, high, low}
 use Rattle.subsets.specs.declared.Key.{Key}
 use Rattle.subsets.proofs.Keys.{key_own}
 use Rattle.subsets.proofs.KeyParts.{low_weight, high_weight, low_lt, high_lt}
 use Rattle.sheet.specs.Limits.{max_services}
 use Rattle.rows.specs.Keys.{base, low_digits, service_weight, set_weight}
-use Rattle.rows.specs.Reads.{Weighted}
-use Rattle.rows.proofs.Paired.{next_key}
+use Rattle.rows.specs.Joins.{Addable}
 
 -- the greatest part of a service's weight
 abbrev pub most : ℕ
@@ -27,9 +24,6 @@ most = base ^ (low_digits - 1)
 
 pub power_le : (e : ℕ) → e < low_digits → base ^ e ≤ most
 power_le e h = pow-le-pow_right {n = base} (omega arith) {i = e} {j = low_digits - 1} (omega arith)
-
-pub power_next : (e : ℕ) → base ^ (e + 1) ≡ base ^ e * base
-power_next e = ap (λ (n : ℕ). base ^ n) (add-one e) ∙ pow-suc base e
 
 -- ---- a service's weight
 
@@ -96,22 +90,35 @@ small : (w : ℕ → ℕ) (x n : ℕ) → ((i : ℕ) → w i ≤ most) → key n
 unfolding key
 small w x n h = sum_le n most _ (λ i k. omega (arith, only_le (has x i) (1 * w i), h i))
 
-pub weigh_start : (r x : ℕ) → (0 ≡ high_in r x 0) × (0 ≡ low_in r x 0)
-weigh_start r x = (start (highs r) x, start (lows r) x)
+-- the weight of those
+abbrev pub weight_below : ℕ → ℕ → ℕ → Key
+weight_below r x n = two (high_in r x n) (low_in r x n)
 
--- one service more: v is the part of its weight k where it is in x
-pub high_next : (r x n h v : ℕ) (t : Bool) (k : Key) → h ≡ high_in r x n → t ≡ has x n → k ≡ service_weight r n → v ≡ only t k.high → h + v ≡ high_in r x (n + 1)
-high_next r x n h v t k a e f g = ap₂ ◌+◌ a (g ∙ ap₂ (λ (t : Bool) (k : Key). only t k.high) e f) ∙ sym (next (highs r) x n)
+pub weigh_start : (r x : ℕ) → two 0 0 ≡ weight_below r x 0
+weigh_start r x = ap₂ two (start (highs r) x) (start (lows r) x)
 
-pub low_next : (r x n h v : ℕ) (t : Bool) (k : Key) → h ≡ low_in r x n → t ≡ has x n → k ≡ service_weight r n → v ≡ only t k.low → h + v ≡ low_in r x (n + 1)
-low_next r x n h v t k a e f g = ap₂ ◌+◌ a (g ∙ ap₂ (λ (t : Bool) (k : Key). only t k.low) e f) ∙ sym (next (lows r) x n)
+-- one service more: in x, or not
+more : (t : Bool) (w : ℕ → ℕ) (x n m : ℕ) → has x n ≡ t → only t (w n) ≡ m → key n w x (λ d. 1) + m ≡ key (n + 1) w x (λ d. 1)
+more t w x n m e f = sym (next w x n ∙ ap (λ (k : ℕ). key n w x (λ d. 1) + k) (ap (λ (b : Bool). only b (w n)) e ∙ f))
 
-pub weigh_le : (r x n : ℕ) → r ≤ max_services → (high_in r x n ≤ n * most) × (low_in r x n ≤ n * most)
-weigh_le r x n h = (small (highs r) x n (λ i. high_le r i h), small (lows r) x n (λ i. low_le r i))
+pub weigh_in : (r x n : ℕ) → has x n ≡ true → (k l : Key) → k ≡ weight_below r x n → l ≡ service_weight r n → plus k l ≡ weight_below r x (n + 1)
+unfolding only
+weigh_in r x n e k l f g = ap₂ plus f g ∙ ap₂ two (more true (highs r) x n (highs r n) e refl) (more true (lows r) x n (lows r n) e refl)
 
-pub weigh_end : (r x n h l : ℕ) → n ≡ r → h ≡ high_in r x n → l ≡ low_in r x n → two h l ≡ set_weight r x
+pub weigh_out : (r x n : ℕ) → has x n ≡ false → weight_below r x n ≡ weight_below r x (n + 1)
+unfolding only
+weigh_out r x n e = ap₂ two (omega (arith, more false (highs r) x n 0 e refl)) (omega (arith, more false (lows r) x n 0 e refl))
+
+-- both can be added
+pub weigh_le : (r x n : ℕ) → r ≤ max_services → n < r → Addable (weight_below r x n) × Addable (service_weight r n)
+weigh_le r x n h l = (
+  (omega (arith, small (highs r) x n (λ i. high_le r i h)), omega (arith, small (lows r) x n (λ i. low_le r i))),
+  (omega (arith, high_le r n h), omega (arith, low_le r n)),
+)
+
+pub weigh_end : (r x : ℕ) → weight_below r x r ≡ set_weight r x
 unfolding set_weight
-weigh_end r x n h l e a b = ap₂ two a b ∙ ap (λ (n : ℕ). two (high_in r x n) (low_in r x n)) e
+weigh_end r x = refl
 
 -- no part of a set's weight is large: with the largest digit for every service it is still a part of a key
 pub set_weight_le : (r x : ℕ) → r ≤ max_services → ((set_weight r x).high < 2 ^ 32) × ((set_weight r x).low < 2 ^ 32)
@@ -120,12 +127,3 @@ set_weight_le r x h = (
   omega (arith, key_own r (high (base ^ low_digits) (weight base r)) x 199, high_lt base r low_digits low_digits x (λ i. 199) (omega arith) (omega arith) (λ i k e. omega arith)),
   omega (arith, key_own r (low (base ^ low_digits) (weight base r)) x 199, low_lt base r low_digits x (λ i. 199) (omega arith) (λ i k e. omega arith)),
 )
-
--- ---- the weights of all sets, set by set
-
-pub weighed_next : (r x : ℕ) (l : List ℕ) (k : Key) → 2 * x + 1 < length l → k ≡ set_weight r x → Weighted r x l
-    → Weighted r (x + 1) (set (set l (2 * x) k.high) (2 * x + 1) k.low)
-weighed_next r x l k h e W = next_key l x k h (set_weight r) e W
-
-pub weighed_all : (r size x : ℕ) (l : List ℕ) → size ≤ x → Weighted r x l → Weighted r size l
-weighed_all r size x l h W = λ y m. W y (omega arith)

@@ -1,8 +1,8 @@
 -- The records of cabinets as they stand in arrays.
 use Rattle.std.specs.Prelude.{ℕ, Bool, false, ◌&&◌, ◌||◌, List, leb, ltb, get_or}
 use Rattle.finite.specs.Below.{only, all_below}
-use Rattle.rows.specs.declared.Own.{Own}
-use Rattle.rows.specs.declared.Link.{Link}
+use Rattle.rows.specs.declared.charges.Own.{Own}
+use Rattle.rows.specs.declared.charges.Link.{Link}
 use Rattle.records.specs.declared.Records.{Records}
 
 -- field i of n records; a record that isn't there has 0

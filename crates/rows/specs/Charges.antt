@@ -7,8 +7,8 @@ use Rattle.subsets.specs.Costs.{Cost, provided}
 use Rattle.subsets.specs.Inner.Encoded.{figure}
 use Rattle.records.specs.Flows.{load_of}
 use Rattle.records.specs.declared.flows.Flow.{Flow}
-use Rattle.rows.specs.declared.Own.{Own}
-use Rattle.rows.specs.declared.Link.{Link}
+use Rattle.rows.specs.declared.charges.Own.{Own}
+use Rattle.rows.specs.declared.charges.Link.{Link}
 
 -- how many sets of services there can be
 abbrev pub max_sets : ℕ

@@ -1,11 +1,12 @@
--- Keys of placings as the tables' rows have them: two numbers a set, the first digits of the key and the others. A node's number is one digit.
-use Rattle.std.specs.Prelude.{ℕ, ◌+◌, ◌*◌, ◌/◌, ◌^◌, List, get_or}
+-- Keys of placings as the tables' rows have them, one a set: each in two parts, its first digits and the others. A node's number is one digit.
+use Rattle.std.specs.Prelude.{ℕ, ◌*◌, ◌/◌, ◌^◌, List, get_or}
 use Rattle.subsets.specs.Costs.{none}
 use Rattle.subsets.specs.Inner.Net.{Net}
 use Rattle.subsets.specs.Inner.Keys.{weight, key, high, low}
 use Rattle.subsets.specs.declared.Key.{Key}
 use Rattle.sheet.specs.Limits.{max_services, max_cabinets}
 use Rattle.rows.specs.Cabinets.{parent_of}
+use Rattle.rows.specs.declared.keys.Weight.{Weight}
 use Rattle.records.specs.declared.Records.{Records}
 
 -- digits are below this
@@ -16,9 +17,21 @@ base = max_cabinets
 abbrev pub low_digits : ℕ
 low_digits = max_services / 2
 
+-- the key of a placing of nothing
+abbrev pub no_key : Key
+no_key = record { high = 0; low = 0 }
+
 -- the key of the set x in a list of keys
-abbrev pub key_in : List ℕ → ℕ → Key
-key_in l x = record { high = get_or l (2 * x) 0; low = get_or l (2 * x + 1) 0 }
+abbrev pub key_in : List Key → ℕ → Key
+key_in l x = get_or l x no_key
+
+-- the key that is a weight once over
+abbrev pub weight_key : Weight → Key
+weight_key w = record { high = w.high; low = w.low }
+
+-- the weight of the set x in a list of weights, as a key
+abbrev pub weight_at : List Weight → ℕ → Key
+weight_at l x = weight_key (get_or l x record { high = 0; low = 0 })
 
 -- the weight of service i of r, in both parts
 abbrev pub service_weight : ℕ → ℕ → Key

@@ -12,9 +12,10 @@ use Rattle.subsets.specs.declared.Key.{Key}
 use Rattle.sheet.specs.Limits.{max_services, max_cabinets}
 use Rattle.rows.specs.Cabinets.{parent_of, own_of, link_of, falling}
 use Rattle.rows.specs.Charges.{max_sets, all_sums, own_figure, link_figure, demanded, run_out, run_in}
-use Rattle.rows.specs.Keys.{base, low_digits, set_weight, times_key, tree}
+use Rattle.rows.specs.Keys.{base, low_digits, no_key, key_in, set_weight, times_key, tree}
 use Rattle.rows.specs.Reads.{Linked}
-use Rattle.rows.specs.declared.Link.{Link}
+use Rattle.rows.specs.declared.charges.Link.{Link}
+use Rattle.rows.specs.declared.children.Children.{Children}
 use Rattle.records.specs.declared.Records.{Records}
 
 -- the entry for cabinet p and the set x, where a row has so many entries
@@ -26,18 +27,20 @@ unfoldable pub back_key : Records → ℕ → List ℕ → ℕ → ℕ → Key
 back_key k size u c x = key_parts base low_digits (tree k) (entry size u) c k.cabinets x
 
 -- the key of the set x in row q of a table of keys
-abbrev pub key_entry : ℕ → List ℕ → ℕ → ℕ → Key
-key_entry size l q x = record { high = entry (2 * size) l q (2 * x); low = entry (2 * size) l q (2 * x + 1) }
+abbrev pub key_entry : ℕ → List Key → ℕ → ℕ → Key
+key_entry size l q x = key_in l (q * size + x)
 
--- the row of p is that of f, and every other row stays
-pub record RowSet (size p : ℕ) (f : ℕ → ℕ) (t t' : List ℕ) : Type 0 where
-  pub row : (x : ℕ) → x < size → entry size t' p x ≡ f x
-  pub rest : (d x : ℕ) → (d ≡ p → ⊥) → x < size → entry size t' d x ≡ entry size t d x
+-- in a table of entries of this type, where one that isn't there is `none`: the row of p is that of f, and every other row stays
+pub record RowOf (A : Type 0) (none : A) (size p : ℕ) (f : ℕ → A) (t t' : List A) : Type 0 where
+  pub row : (x : ℕ) → x < size → get_or t' (p * size + x) none ≡ f x
+  pub rest : (d x : ℕ) → (d ≡ p → ⊥) → x < size → get_or t' (d * size + x) none ≡ get_or t (d * size + x) none
 
--- the keys of row q are those of f, and every other row stays
-pub record KeysSet (size q : ℕ) (f : ℕ → Key) (g g' : List ℕ) : Type 0 where
-  pub row : (x : ℕ) → x < size → key_entry size g' q x ≡ f x
-  pub rest : (d i : ℕ) → (d ≡ q → ⊥) → i < 2 * size → entry (2 * size) g' d i ≡ entry (2 * size) g d i
+-- such a table of numbers, and one of keys
+abbrev pub RowSet : ℕ → ℕ → (ℕ → ℕ) → List ℕ → List ℕ → Type 0
+RowSet = RowOf ℕ 0
+
+abbrev pub KeysSet : ℕ → ℕ → (ℕ → Key) → List Key → List Key → Type 0
+KeysSet = RowOf Key no_key
 
 -- what the link above a cabinet charges for each set, by what runs out of the set and into it
 abbrev pub link_figures : Link → List ℕ → ℕ → ℕ
@@ -57,7 +60,7 @@ source k size p sums t u =
     }
 
 -- the row of p is rebuilt with its children below n, and its keys as row q: so are the choices of those children, and all other rows stay
-pub record Rebuilds (S : Source) (size p q n : ℕ) (t t' u u' g g' : List ℕ) (m : ℕ) : Type 0 where
+pub record Rebuilds (S : Source) (size p q n : ℕ) (t t' u u' : List ℕ) (g g' : List Key) (m : ℕ) : Type 0 where
   pub costs : RowSet size p (rebuilt_row S n) t t'
   pub chosen : (c x : ℕ) → c < n → S.child c ≡ true → x < size → entry size u' c x ≡ rebuilt_entry S size c x
   pub kept : (c x : ℕ) → (S.child c ≡ true → n ≤ c) → x < size → entry size u' c x ≡ entry size u c x
@@ -65,24 +68,24 @@ pub record Rebuilds (S : Source) (size p q n : ℕ) (t t' u u' g g' : List ℕ) 
   pub count : m ≡ rebuilt_count S size n
 
 -- the best split of x where the row of c, with the keys kid, is joined to that of p, with the keys of row q
-abbrev pub joined_split : Link → ℕ → ℕ → ℕ → ℕ → List ℕ → (ℕ → Key) → List ℕ → List ℕ → ℕ → Best
+abbrev pub joined_split : Link → ℕ → ℕ → ℕ → ℕ → List ℕ → (ℕ → Key) → List ℕ → List Key → ℕ → Best
 joined_split k size p c q sums kid t g x = best_split (by_key (key_entry size g q) kid x) (entry size t p) (entry size t c) (link_figures k sums) x
 
 -- c, with the link k above it and the keys kid, is joined to p; the count m is the choice of the empty set
-pub record JoinsChild (k : Link) (size p c q : ℕ) (sums : List ℕ) (kid : ℕ → Key) (t t' u u' g g' : List ℕ) (m : ℕ) : Type 0 where
+pub record JoinsChild (k : Link) (size p c q : ℕ) (sums : List ℕ) (kid : ℕ → Key) (t t' u u' : List ℕ) (g g' : List Key) (m : ℕ) : Type 0 where
   pub costs : RowSet size p (λ x. (joined_split k size p c q sums kid t g x).cost) t t'
   pub choices : RowSet size c (λ x. cond (eqb x 0) m (joined_split k size p c q sums kid t g x).chosen) u u'
   pub keys : KeysSet size q (λ x. split_key (key_entry size g q) kid x (joined_split k size p c q sums kid t g x).chosen) g g'
   pub count : m ≡ counted_below (entry size t p) (entry size t c) (link_figures k sums) size
 
 -- what joining a child asks for
-pub record JoinRoom (size p c q : ℕ) (t u g : List ℕ) : Type 0 where
+pub record JoinRoom (size p c q : ℕ) (t u : List ℕ) (g : List Key) : Type 0 where
   pub sets : size ≤ max_sets
   pub row_size : (r : ℕ) × (r ≤ max_services) × (size ≡ 2 ^ r)
   pub row : p * size + size ≤ length t
   pub child : c * size + size ≤ length t
   pub choices : c * size + size ≤ length u
-  pub keys : q * (2 * size) + 2 * size ≤ length g
+  pub keys : q * size + size ≤ length g
 
 -- what rebuilding a row asks for
 pub record RebuildRoom (k : Records) (size p : ℕ) (t u : List ℕ) : Type 0 where
@@ -92,18 +95,11 @@ pub record RebuildRoom (k : Records) (size p : ℕ) (t u : List ℕ) : Type 0 wh
   pub costs : k.cabinets * size ≤ length t
   pub choices : k.cabinets * size ≤ length u
 
--- room for the child's row, for what its link charges and for its keys, and the sums of all sets
-pub record Scratch (size : ℕ) (child link kid sums : List ℕ) : Type 0 where
-  pub for_child : size ≤ length child
-  pub for_link : size ≤ length link
-  pub for_keys : 2 * size ≤ length kid
-  pub for_sums : all_sums ≤ length sums
-
 -- there is room for so many rows of keys, and those of the cabinets after p and below p + near are there, cabinet d as row d % rows
-pub record KeysKept (k : Records) (size p rows near : ℕ) (u g : List ℕ) : Type 0 where
+pub record KeysKept (k : Records) (size p rows near : ℕ) (u : List ℕ) (g : List Key) : Type 0 where
   pub some_rows : 0 < rows
   pub no_more : near ≤ rows
-  pub places : rows * (2 * size) ≤ length g
+  pub places : rows * size ≤ length g
   pub keys : (d x : ℕ) → p < d → d < k.cabinets → d - p < near → x < size → key_entry size g (d % rows) x ≡ back_key k size u d x
 
 -- the row of p is what it is rebuilt from, with the choices of its children
@@ -112,7 +108,7 @@ pub record Built (k : Records) (size p : ℕ) (sums t u : List ℕ) : Type 0 whe
   pub chosen : (c x : ℕ) → c < k.cabinets → (source k size p sums t u).child c ≡ true → x < size → entry size u c x ≡ rebuilt_entry (source k size p sums t u) size c x
 
 -- what filling both tables asks for
-pub record FillRoom (k : Records) (size : ℕ) (t u sums last prior : List ℕ) : Type 0 where
+pub record FillRoom (k : Records) (size : ℕ) (t u sums : List ℕ) (lists : Children) : Type 0 where
   pub services : k.services ≤ max_services
   pub cabinets : k.cabinets ≤ max_cabinets
   pub row_size : size ≡ 2 ^ k.services
@@ -120,7 +116,7 @@ pub record FillRoom (k : Records) (size : ℕ) (t u sums last prior : List ℕ) 
   pub choices : k.cabinets * size ≤ length u
   pub all_there : all_sums ≤ length sums
   pub falls : Falls (parent_of k)
-  pub links : Linked (tree k) k.cabinets last prior
+  pub links : Linked (tree k) k.cabinets lists
 
 -- all rows are built, the root's choices and all rows past the last cabinet stay, and every split that counts was counted
 pub record Fills (k : Records) (size : ℕ) (sums t t' u u' : List ℕ) (m : ℕ) : Type 0 where

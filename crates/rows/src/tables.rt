@@ -2,94 +2,113 @@
 ghost use Rattle.std.specs.Prelude.{◌≡◌, cond, ℕ, ◌-◌, ◌*◌, ◌%◌, ◌^◌, ◌≤◌, ◌<◌, ltb, length, get_or};
 ghost use Rattle.subsets.specs.Inner.Net.{Net};
 ghost use Rattle.subsets.specs.Inner.Keys.{key_parts};
+ghost use Rattle.sheet.specs.Limits.{max_cabinets};
+ghost use Rattle.rows.specs.Cabinets.{link_of};
+ghost use Rattle.rows.specs.Charges.{all_sums};
 ghost use Rattle.rows.specs.Keys.{base, low_digits, key_in};
-ghost use Rattle.rows.specs.Reads.{Readable};
-ghost use Rattle.rows.specs.Joins.{Small};
-ghost use Rattle.rows.specs.Rebuilds.{entry, key_entry, JoinRoom, JoinsChild, Scratch};
+ghost use Rattle.rows.specs.Reads.{Reads};
+ghost use Rattle.rows.specs.Joins.{Addable, Small};
+ghost use Rattle.rows.specs.Rebuilds.{entry, key_entry, JoinRoom, JoinsChild};
 
-use crate::Link;
-use crate::charges::link_row;
-use crate::joins::join;
-use crate::keys::read_keys;
-use sheet::Sheet;
+use crate::charges::Link;
+use crate::children::Children;
+use crate::joins::{Child, join};
+use crate::keys::{Placings, Weight};
+use crate::{KEYS, SETS};
+use records::Records;
+use subsets::Key;
 
-// Copies a row.
-fn copy_row(copy: &mut [u64], row: &[u64])
-    requires { length row.now ≤ length copy.old }
-    ensures { (x : ℕ) → x < length row.now → get_or copy.new x 0 ≡ get_or row.now x 0 }
-{
-    let mut x = 0;
-    while x < row.len() {
-        copy[x] = row[x];
-        x += 1;
+// What rows are rebuilt from: the records, the sums over sets, the children as lists, and the weight of each set. A row of a table has `size` entries.
+#[derive(Clone, Copy)]
+pub(crate) struct Sources<'a> {
+    pub(crate) records: &'a Records,
+    pub(crate) sums: &'a [u32],
+    pub(crate) children: &'a Children,
+    pub(crate) weights: &'a [Weight],
+    pub(crate) size: usize,
+}
+
+// Room on the way: for the rows of keys that are kept, and for a child's row, what the link above it charges, and its keys.
+#[derive(Drop)]
+pub(crate) struct Room {
+    pub(crate) keys: [Key; KEYS],
+    pub(crate) child: [u64; SETS],
+    pub(crate) link: [u64; SETS],
+    pub(crate) child_keys: [Key; SETS],
+}
+
+// Which rows of keys are kept while the row of p is rebuilt: there is room for `rows`, that of cabinet d is row d % rows, and those of the cabinets
+// after p and below p + near are there.
+#[derive(Clone, Copy)]
+pub(crate) struct Kept {
+    pub(crate) rows: usize,
+    pub(crate) near: usize,
+}
+
+impl Kept {
+    // The keys of p's child c: copied where its row of keys is kept, else read back from the choices.
+    pub(crate) fn fetch_keys<'a>(
+        self,
+        child_keys: &mut [Key],
+        keys: &'a [Key],
+        placings: &Placings<'a>,
+        p: usize,
+        c: usize,
+    )
+        requires readable { (N : Net) × Reads N placings.now × (c < N.s) × (p < c) }
+        requires room { (placings.now.size ≤ length child_keys.old) × (0 < self.rows) × (self.rows * placings.now.size ≤ length keys.now) }
+        ensures { (N : Net) → Reads N placings.now → c < N.s → (x : ℕ) → x < placings.now.size
+            → key_in child_keys.new x
+            ≡ cond (ltb (c - p) self.near) (key_entry placings.now.size keys.now (c % self.rows) x)
+            (key_parts base low_digits N (entry placings.now.size placings.now.choices.now) c N.s x) }
+    {
+        if c - p < self.near {
+            let size = placings.size;
+            let at = (c % self.rows) * size;
+            let end = at + size;
+            child_keys[..size].copy_from_slice(&keys[at..end]);
+        } else {
+            placings.write_keys(child_keys, c);
+        }
     }
 }
 
-// The keys of p's child c: copied where its row of keys is kept, as it is for the children below p + near, else read back from the choices.
-pub(crate) fn fetch_keys<'a>(
-    child_keys: &mut [u64],
-    keys: &'a [u64],
-    choices: &'a [u16],
-    last: &'a [u16; Sheet::MAX_CABINETS],
-    prior: &'a [u16; Sheet::MAX_CABINETS],
-    weights: &'a [u32],
-    size: usize,
-    rows: usize,
-    near: usize,
-    p: usize,
-    c: usize,
-)
-    requires readable { (N : Net) × Readable N size choices.now last.now prior.now weights.now × (c < N.s) × (p < c) }
-    requires room { (2 * size ≤ length child_keys.old) × (0 < rows) × (rows * (2 * size) ≤ length keys.now) }
-    ensures { (N : Net) → Readable N size choices.now last.now prior.now weights.now → c < N.s
-        → (x : ℕ) → x < size → key_in child_keys.new x
-        ≡ cond (ltb (c - p) near) (key_entry size keys.now (c % rows) x) (key_parts base low_digits N (entry size choices.now) c N.s x) }
-{
-    if c - p < near {
-        let at = (c % rows) * (2 * size);
-        let end = at + 2 * size;
-        copy_row(child_keys, &keys[at..end]);
-    } else {
-        read_keys(child_keys, choices, last, prior, weights, size, c);
-    }
-}
-
-// Joins the row of p's child c, with the link k above it and its keys, into that of p, whose keys are row q of those kept. The child's row is
-// copied first, since two rows of one table cannot be lent at once. The count takes the choice of the empty set, which is never asked for.
-pub(crate) fn join_child(
+// Joins the row of p's child c, whose keys are at hand, into that of p, whose keys are row q of those kept. The child's row is copied first, since two
+// rows of one table cannot be lent at once. The count takes the choice of the empty set, which is never asked for.
+pub(crate) fn join_child<'a>(
     costs: &mut [u64],
     choices: &mut [u16],
-    keys: &mut [u64],
-    child: &mut [u64],
-    link: &mut [u64],
-    child_keys: &[u64],
-    k: Link,
-    sums: &[u32],
+    room: &mut Room,
+    from: Sources<'a>,
     p: usize,
     c: usize,
     q: usize,
-    size: usize,
 ) -> u64
-    requires room { JoinRoom size p c q costs.old choices.old keys.old }
-    requires scratch { Scratch size child.old link.old child_keys.now sums.now }
-    requires small { Small size child_keys.now × ((i : ℕ) → i < 2 * size → entry (2 * size) keys.old q i < 2 ^ 63) }
-    ensures { JoinsChild k size p c q sums.now (key_in child_keys.now) costs.old costs.new choices.old choices.new keys.old keys.new result }
+    requires room { JoinRoom from.size p c q costs.old choices.old room.old.keys }
+    requires cabinet { (c < from.records.now.cabinets) × (from.records.now.cabinets ≤ max_cabinets) × (all_sums ≤ length from.sums.now) }
+    requires small { Small from.size room.old.child_keys × ((x : ℕ) → x < from.size → Addable (key_entry from.size room.old.keys q x)) }
+    ensures length { length room.new.keys ≡ length room.old.keys }
+    ensures joined { JoinsChild (link_of from.entry.records.now c) from.entry.size p c q from.entry.sums.now (key_in room.old.child_keys)
+        costs.old costs.new choices.old choices.new room.old.keys room.new.keys result }
 {
+    let size = from.size;
     let at = p * size;
     let end = at + size;
     let below = c * size;
     let below_end = below + size;
-    let first = q * (2 * size);
-    let first_end = first + 2 * size;
-    copy_row(child, &costs[below..below_end]);
-    link_row(link, sums, k, size);
+    let first = q * size;
+    let first_end = first + size;
+    room.child[..size].copy_from_slice(&costs[below..below_end]);
+    Link::above(from.records, c).fill(&mut room.link, from.sums, size);
     let count = join(
         &mut costs[at..end],
         &mut choices[below..below_end],
-        &mut keys[first..first_end],
-        &child[..],
-        &link[..],
-        child_keys,
+        &mut room.keys[first..first_end],
+        Child {
+            row: &room.child,
+            link: &room.link,
+            keys: &room.child_keys,
+        },
     );
     choices[below] = count as u16;
     count

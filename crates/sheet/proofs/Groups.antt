@@ -12,7 +12,7 @@ use Rattle.sheet.specs.Reading.{rules, reader_numbers, answered, reading}
 use Rattle.sheet.specs.declared.Refusal.{Refusal}
 use Rattle.sheet.specs.declared.Refusal.TheVariants.{SheetWriter, Lender, Road, PlanWriter}
 use Rattle.sheet.specs.declared.Sheet.{Sheet}
-use Rattle.sheet.specs.declared.Reading.TheVariants.{Refused}
+use Rattle.std.specs.Prelude.{Err}
 
 -- the refusal of a number carries that number
 pub number_refusal : (n : ℕ) → number_of (refusal n) ≡ n
@@ -29,13 +29,13 @@ number_refusal n = go (one_of sheet_writers n) (one_of lenders n) (one_of roads 
 pub own_group : (f : Refusal) (n : ℕ) → f ≡ refusal n → f ≡ refusal (number_of f)
 own_group f n e = e ∙ ap refusal (sym (ap number_of e ∙ number_refusal n))
 
-given : (n : ℕ) (h : Sheet) (f : Refusal) → answered n h ≡ Refused f → f ≡ refusal (number_of f)
+given : (n : ℕ) (h : Sheet) (f : Refusal) → answered n h ≡ Err f → f ≡ refusal (number_of f)
 unfolding answered
 given zero h f e = absurd (let z : ◌≡◌ {A = ℕ} 0 1 = cc in omega arith)
 given (suc n) h f e = own_group f (suc n) (cc)
 
 -- every refusal of the reader stands in the group of its number
-pub reading_group : (bytes : List ℕ) (f : Refusal) → reading bytes ≡ Refused f → f ≡ refusal (number_of f)
+pub reading_group : (bytes : List ℕ) (f : Refusal) → reading bytes ≡ Err f → f ≡ refusal (number_of f)
 unfolding reading
 reading_group bytes f e = given (first_applying (rules bytes)) (header bytes) f e
 
@@ -69,11 +69,11 @@ first_listed t (x ∷ xs) b n e =
     go false q ih = ih (simp q at e)
 
 -- the reader's numbers are 1 to 9, 18 and 19
-pub reading_number : (bytes : List ℕ) (f : Refusal) → reading bytes ≡ Refused f → one_of reader_numbers (number_of f) ≡ true
+pub reading_number : (bytes : List ℕ) (f : Refusal) → reading bytes ≡ Err f → one_of reader_numbers (number_of f) ≡ true
 unfolding reading rules answered
 reading_number bytes f e = go (first_applying (rules bytes)) refl e
   where
-    go : (m : ℕ) → first_applying (rules bytes) ≡ m → answered m (header bytes) ≡ Refused f → one_of reader_numbers (number_of f) ≡ true
+    go : (m : ℕ) → first_applying (rules bytes) ≡ m → answered m (header bytes) ≡ Err f → one_of reader_numbers (number_of f) ≡ true
     go zero q e = absurd (let z : ◌≡◌ {A = ℕ} 0 1 = cc in omega arith)
     go (suc n) q e =
         let k : number_of f ≡ suc n = ap number_of (let z : f ≡ refusal (suc n) = cc in z) ∙ number_refusal (suc n) in

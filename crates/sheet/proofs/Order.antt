@@ -13,7 +13,7 @@ use Rattle.sheet.specs.Refusals.{sheet_writers, lenders, roads, plan_writers, on
 use Rattle.sheet.specs.Reading.{rules, answered, reading, number}
 use Rattle.sheet.specs.declared.Sheet.{Sheet}
 use Rattle.sheet.specs.declared.Refusal.{Refusal}
-use Rattle.sheet.specs.declared.Reading.TheVariants.{Accepted, Refused}
+use Rattle.std.specs.Prelude.{Ok, Err}
 use Rattle.sheet.proofs.Groups.{number_refusal, listed}
 use Rattle.sheet.proofs.Ladder.{pass}
 
@@ -170,8 +170,8 @@ reading_order bytes = refl
 -- and on an accepted sheet gives the first of its own that applies.
 pub after_reader :
     (bytes : List ℕ) (own : List Rule) (n : ℕ) →
-    ((h : Sheet) → reading bytes ≡ Accepted h → n ≡ first_applying own) →
-    ((f : Refusal) → reading bytes ≡ Refused f → n ≡ number_of f) →
+    ((h : Sheet) → reading bytes ≡ Ok h → n ≡ first_applying own) →
+    ((f : Refusal) → reading bytes ≡ Err f → n ≡ number_of f) →
     n ≡ first_applying (rules bytes ++ own)
 unfolding reading rules answered
 after_reader bytes own n accepted refused = go (first_applying (rules bytes)) refl

@@ -48,9 +48,10 @@ counted h e =
 
 -- with offsets that are words
 pub bounded :
-    (h : Sheet) → Counted h → h.services_at < 65536 → h.cabinets_at < 65536 → h.streams_at < 65536
+    (h : Sheet) → beyond_limits h ≡ false → h.services_at < 65536 → h.cabinets_at < 65536 → h.streams_at < 65536
     → h.pairs < 65536 → h.pairs_at < 65536 → Bounded h
-bounded h k a b c m d =
+bounded h e a b c m d =
+    let k = counted h e in
     record {
       services = k.services;
       some_cabinet = k.some_cabinet;
@@ -69,9 +70,9 @@ unfolding outside
 fits len at size e = ltb-false _ _ (neither_r (ltb at header_size) (ltb len (at + size)) e)
 
 -- blocks that refusal 4 does not apply to
-pub inside : (h : Sheet) (len : ℕ) → 1 ≤ h.cabinets → some_block_outside h len ≡ false → Inside h len
+pub inside : (h : Sheet) (len : ℕ) → some_block_outside h len ≡ false → Inside h len
 unfolding some_block_outside
-inside h len k e =
+inside h len e =
     let first = outside len h.services_at (services_size h) in
     let second = outside len h.cabinets_at (cabinets_size h) in
     let third = outside len h.streams_at (streams_size h) in
@@ -79,7 +80,6 @@ inside h len k e =
       services = fits len _ _ (neither_l first second (neither_l (first || second) third e));
       cabinets = fits len _ _ (neither_r first second (neither_l (first || second) third e));
       streams = fits len _ _ (neither_r (first || second) third e);
-      root = k;
     }
 
 -- without a fourth block there are no pairs

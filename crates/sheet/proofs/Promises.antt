@@ -23,12 +23,7 @@ use Rattle.sheet.specs.declared.Sheet.{Sheet}
 use Rattle.sheet.specs.declared.Cabinet.{Cabinet}
 use Rattle.sheet.specs.declared.Stream.{Stream}
 use Rattle.sheet.specs.declared.Pair.{Pair}
-use Rattle.sheet.specs.declared.Reading.TheVariants.{Accepted}
-use Rattle.sheet.specs.declared.ServiceRecord.TheVariants as services
-use Rattle.sheet.specs.declared.CabinetRecord.TheVariants as cabinets
-use Rattle.sheet.specs.declared.StreamRecord.TheVariants as streams
-use Rattle.sheet.specs.declared.PairRecord.{PairRecord}
-use Rattle.sheet.specs.declared.PairRecord.TheVariants as pairs
+use Rattle.std.specs.Prelude.{Option, Some, Ok}
 use Rattle.sheet.proofs.Same.{records_padded}
 use Rattle.sheet.proofs.Passed.{Counted, counted, inside, pairs_inside}
 
@@ -43,7 +38,7 @@ passed x xs z e = go x.applies refl
     go true q = absurd (let k : x.number ≡ 0 = simp q at e in omega arith)
     go false q = (q, simp q at e)
 
-is_zero : (n : ℕ) (h k : Sheet) → answered n h ≡ Accepted k → (n ≡ 0) × (k ≡ h)
+is_zero : (n : ℕ) (h k : Sheet) → answered n h ≡ Ok k → (n ≡ 0) × (k ≡ h)
 unfolding answered
 is_zero zero h k e = (refl, cc)
 is_zero (suc n) h k e = absurd (let z : ◌≡◌ {A = ℕ} 0 1 = cc in omega arith)
@@ -232,7 +227,7 @@ joints_by_capacity bytes c = go (ltb c (header bytes).cabinets)
 
 -- ---- an accepted sheet
 
-module _ (bytes : List ℕ) (h : Sheet) (a : reading bytes ≡ Accepted h) where
+module _ (bytes : List ℕ) (h : Sheet) (a : reading bytes ≡ Ok h) where
   zero_refusals : (first_applying (rules bytes) ≡ 0) × (h ≡ header bytes)
   unfolding reading
   zero_refusals = is_zero (first_applying (rules bytes)) (header bytes) h a
@@ -244,7 +239,7 @@ module _ (bytes : List ℕ) (h : Sheet) (a : reading bytes ≡ Accepted h) where
   sizes = counted (header bytes) clean.limits
 
   lies : Inside (header bytes) (length bytes)
-  lies = inside (header bytes) (length bytes) sizes.some_cabinet clean.blocks
+  lies = inside (header bytes) (length bytes) clean.blocks
 
   pairs_lie : PairsInside (header bytes) (length bytes)
   pairs_lie = pairs_inside bytes (ltb-false _ _ clean.long) clean.pairs_block
@@ -375,7 +370,7 @@ module _ (bytes : List ℕ) (h : Sheet) (a : reading bytes ≡ Accepted h) where
   pub service_given :
       (i : ℕ) →
       i < (instance bytes).r →
-      service_record h bytes i ≡ services.Given (record { demand = (instance bytes).demand i })
+      service_record h bytes i ≡ Some (record { demand = (instance bytes).demand i })
   unfolding instance service_record there only
   service_given i k =
       let f : (header bytes).services_at + 2 * i + 2 ≤ length bytes = omega (arith, lies.services) in
@@ -386,7 +381,7 @@ module _ (bytes : List ℕ) (h : Sheet) (a : reading bytes ≡ Accepted h) where
       (c : ℕ) →
       c < (instance bytes).s →
       cabinet_record h bytes c
-      ≡ cabinets.Given (record {
+      ≡ Some (record {
         parent = (instance bytes).parent c;
         capacity = (instance bytes).capacity c;
         price = (instance bytes).price c;
@@ -405,7 +400,7 @@ module _ (bytes : List ℕ) (h : Sheet) (a : reading bytes ≡ Accepted h) where
       (j : ℕ) →
       j < (instance bytes).q →
       stream_record h bytes j
-      ≡ streams.Given (record {
+      ≡ Some (record {
         from = (instance bytes).from j;
         to = (instance bytes).to j;
         demand = (instance bytes).load j;
@@ -417,7 +412,7 @@ module _ (bytes : List ℕ) (h : Sheet) (a : reading bytes ≡ Accepted h) where
       (simp (lt-ltb j (header bytes).streams k, le-leb ((header bytes).streams_at + 6 * j + 6) (length bytes) f))
 
   -- every pair that the sheet has is given, as it stands in the sheet
-  given_pair : (n : ℕ) → n < h.pairs → pair_record h bytes n ≡ pairs.Given (pair (header bytes) bytes n)
+  given_pair : (n : ℕ) → n < h.pairs → pair_record h bytes n ≡ Some (pair (header bytes) bytes n)
   unfolding pair_record there
   given_pair n k =
       let l : n < (header bytes).pairs = omega (arith, ap (λ (x : Sheet). x.pairs) zero_refusals.1) in
@@ -429,7 +424,7 @@ module _ (bytes : List ℕ) (h : Sheet) (a : reading bytes ≡ Accepted h) where
   pub pair_given :
       (n : ℕ) →
       n < h.pairs →
-      (p : Pair) × (pair_record h bytes n ≡ pairs.Given p) × (p.service < (instance bytes).r) × (p.cabinet < (instance bytes).s)
+      (p : Pair) × (pair_record h bytes n ≡ Some p) × (p.service < (instance bytes).r) × (p.cabinet < (instance bytes).s)
   unfolding instance
   pair_given n k =
       let l : n < (header bytes).pairs = omega (arith, ap (λ (x : Sheet). x.pairs) zero_refusals.1) in
@@ -441,4 +436,4 @@ module _ (bytes : List ℕ) (h : Sheet) (a : reading bytes ≡ Accepted h) where
   barred_pairs i c =
       bar_is i c
       ∙ ap (λ (m : ℕ). any_below m (λ n. names (pair (header bytes) bytes n) i c)) (sym (ap (λ (x : Sheet). x.pairs) zero_refusals.1))
-      ∙ any_ext h.pairs (λ n. names (pair (header bytes) bytes n) i c) (λ n. bars (pair_record h bytes n) i c) (λ n k. sym (ap (λ (x : PairRecord). bars x i c) (given_pair n k)))
+      ∙ any_ext h.pairs (λ n. names (pair (header bytes) bytes n) i c) (λ n. bars (pair_record h bytes n) i c) (λ n k. sym (ap (λ (x : Option Pair). bars x i c) (given_pair n k)))

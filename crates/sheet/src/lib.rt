@@ -1,26 +1,23 @@
 // The reader of planning sheets: any bytes get the counts and records of a sheet, or one refusal.
 #![tactic(auto)]
 
-ghost use Rattle.std.specs.Prelude.{◌≡◌, ◌≤◌, length, drop};
-ghost use Rattle.sheet.specs.Inner.Within.{Bounded, Inside};
-ghost use Rattle.sheet.specs.Layout.{header_size, header};
-ghost use Rattle.sheet.specs.Reading.{rules, answered, reading};
+ghost use Rattle.std.specs.Prelude.{◌≡◌};
+ghost use Rattle.sheet.specs.Reading.{reading};
 ghost use Rattle.sheet.specs.Records.{service_record, cabinet_record, stream_record, pair_record};
-ghost use Rattle.sheet.specs.Refusals.{number_of, group_of, first_applying};
+ghost use Rattle.sheet.specs.Refusals.{number_of, group_of};
 
 mod blocks; // blocks.rt: where the four blocks lie
 mod conditions; // conditions.rt: the limits, and the conditions of refusals 6 to 9 and 19 over all records
+mod draft; // draft.rt: a sheet that is being read, and refusals 4 to 9, 18 and 19 in their order
 mod records; // records.rt: words, the header, and one record of a block
 
-use blocks::{any_outside, any_share, is_pairs_block_wrong};
-use conditions::{
-    is_amount_too_high, is_beyond_limits, is_end_wrong, is_pair_wrong, is_parent_wrong,
-    is_root_linked,
-};
+use conditions::is_beyond_limits;
+use draft::Draft;
 use records::{is_there, read_cabinet, read_header, read_pair, read_service, read_stream, word};
 
-// Who can cause a refusal, with the refusal's number.
-#[derive(Clone, Copy)]
+// Who can cause a refusal, with the refusal's number. 01 gives refusals this form; a number in another group than its own can be said, and is refused
+// (the edits `wrong_group` and `group_of_23`).
+#[derive(Clone, Copy, PartialEq, Eq)]
 pub enum Refusal {
     SheetWriter(u16),
     Lender(u16),
@@ -39,13 +36,6 @@ pub struct Sheet {
     streams_at: usize,
     pairs: usize,
     pairs_at: usize,
-}
-
-// What reading answers.
-#[derive(Clone, Copy)]
-pub enum Reading {
-    Accepted(Sheet),
-    Refused(Refusal),
 }
 
 #[derive(Clone, Copy)]
@@ -80,96 +70,94 @@ pub struct Pair {
     pub cabinet: usize,
 }
 
-#[derive(Clone, Copy)]
-pub enum ServiceRecord {
-    Given(Service),
-    Missing,
-}
-
-#[derive(Clone, Copy)]
-pub enum CabinetRecord {
-    Given(Cabinet),
-    Missing,
-}
-
-#[derive(Clone, Copy)]
-pub enum StreamRecord {
-    Given(Stream),
-    Missing,
-}
-
-#[derive(Clone, Copy)]
-pub enum PairRecord {
-    Given(Pair),
-    Missing,
-}
-
 // Reads a sheet: accepted exactly when no refusal applies, else refused with the first that applies. Here 1 to 3.
-pub fn read(bytes: &[u8]) -> Reading
+#[tactic(auto, unfolding(crate::specs::Reading::reading, crate::specs::Reading::rules, crate::specs::Reading::answered, crate::specs::Refusals::first_applying, crate::specs::Refusals::refusal), using(crate::proofs::Passed::bounded))]
+pub fn read(bytes: &[u8]) -> Result<Sheet, Refusal>
     ensures { result ≡ reading bytes.now }
 {
     if bytes.len() < Sheet::HEADER {
-        return Reading::Refused(Refusal::SheetWriter(1));
+        return Err(Refusal::TOO_SHORT);
     }
     let sheet = read_header(bytes);
     if is_beyond_limits(sheet) {
-        return Reading::Refused(Refusal::SheetWriter(2));
+        return Err(Refusal::BEYOND_LIMITS);
     }
-    if word(bytes, 12) as usize != bytes.len() {
-        return Reading::Refused(Refusal::SheetWriter(3));
+    if usize::from(word(bytes, 12)) != bytes.len() {
+        return Err(Refusal::WRONG_LENGTH);
     }
-    read_blocks(bytes, sheet)
-}
-
-// Refusals 4 and 5, where 1 to 3 do not apply.
-fn read_blocks(bytes: &[u8], sheet: Sheet) -> Reading
-    requires { (sheet ≡ header bytes.now) × Bounded sheet × (header_size ≤ length bytes.now) }
-    ensures { result ≡ answered (first_applying (drop 3 (rules bytes.now))) sheet }
-{
-    if any_outside(sheet, bytes.len()) {
-        return Reading::Refused(Refusal::SheetWriter(4));
-    }
-    if any_share(sheet) {
-        return Reading::Refused(Refusal::SheetWriter(5));
-    }
-    read_records(bytes, sheet)
-}
-
-// Refusals 6 to 9, where 1 to 5 do not apply.
-fn read_records(bytes: &[u8], sheet: Sheet) -> Reading
-    requires { (sheet ≡ header bytes.now) × Inside sheet (length bytes.now) × Bounded sheet × (header_size ≤ length bytes.now) }
-    ensures { result ≡ answered (first_applying (drop 5 (rules bytes.now))) sheet }
-{
-    if is_amount_too_high(bytes, sheet) {
-        return Reading::Refused(Refusal::SheetWriter(6));
-    }
-    if is_parent_wrong(bytes, sheet) {
-        return Reading::Refused(Refusal::SheetWriter(7));
-    }
-    if is_end_wrong(bytes, sheet) {
-        return Reading::Refused(Refusal::SheetWriter(8));
-    }
-    if is_root_linked(bytes, sheet) {
-        return Reading::Refused(Refusal::SheetWriter(9));
-    }
-    read_pairs(bytes, sheet)
-}
-
-// Refusals 18 and 19, where 1 to 9 do not apply.
-fn read_pairs(bytes: &[u8], sheet: Sheet) -> Reading
-    requires { (sheet ≡ header bytes.now) × Bounded sheet × (header_size ≤ length bytes.now) }
-    ensures { result ≡ answered (first_applying (drop 9 (rules bytes.now))) sheet }
-{
-    if is_pairs_block_wrong(sheet, bytes.len()) {
-        return Reading::Refused(Refusal::SheetWriter(18));
-    }
-    if is_pair_wrong(bytes, sheet) {
-        return Reading::Refused(Refusal::SheetWriter(19));
-    }
-    Reading::Accepted(sheet)
+    Draft { bytes, sheet }.read_blocks()
 }
 
 impl Refusal {
+    // Fewer bytes than a header has.
+    pub const TOO_SHORT: Refusal = Refusal::SheetWriter(1);
+
+    // Services, cabinets or streams outside their limits.
+    pub const BEYOND_LIMITS: Refusal = Refusal::SheetWriter(2);
+
+    // The length word is not the sheet's length.
+    pub const WRONG_LENGTH: Refusal = Refusal::SheetWriter(3);
+
+    // A block starts in the header or ends past the length.
+    pub const BLOCK_OUTSIDE: Refusal = Refusal::SheetWriter(4);
+
+    // Two blocks share a byte.
+    pub const BLOCKS_SHARE: Refusal = Refusal::SheetWriter(5);
+
+    // A demand, capacity or price above its limit.
+    pub const AMOUNT_TOO_HIGH: Refusal = Refusal::SheetWriter(6);
+
+    // The root has a parent, or another cabinet's has no smaller number.
+    pub const WRONG_PARENT: Refusal = Refusal::SheetWriter(7);
+
+    // A stream ends at no service, or where it starts.
+    pub const WRONG_ENDS: Refusal = Refusal::SheetWriter(8);
+
+    // The root has a link.
+    pub const ROOT_LINKED: Refusal = Refusal::SheetWriter(9);
+
+    // The block of pairs lies wrong or has too many.
+    pub const WRONG_PAIRS_BLOCK: Refusal = Refusal::SheetWriter(18);
+
+    // A pair names no service or no cabinet.
+    pub const WRONG_PAIR: Refusal = Refusal::SheetWriter(19);
+
+    // The output has too few places.
+    pub const SHORT_OUTPUT: Refusal = Refusal::Lender(10);
+
+    // The span has too few entries.
+    pub const SHORT_SPAN: Refusal = Refusal::Lender(11);
+
+    // The output is too short for the copy.
+    pub const SHORT_COPY: Refusal = Refusal::Lender(21);
+
+    // A tariff beyond its limits, or too few places for the lines.
+    pub const UNFIT_BILL: Refusal = Refusal::Lender(22);
+
+    // The span ends past a table.
+    pub const SPAN_OUTSIDE: Refusal = Refusal::Lender(24);
+
+    // No plan is valid.
+    pub const NO_PLAN: Refusal = Refusal::Road(12);
+
+    // The plan has not one place for each service.
+    pub const WRONG_PLACES: Refusal = Refusal::PlanWriter(13);
+
+    // There is no such cabinet.
+    pub const NO_SUCH_CABINET: Refusal = Refusal::PlanWriter(14);
+
+    // A cabinet is overfull, or a joint holds a service.
+    pub const OVERFULL_CABINET: Refusal = Refusal::PlanWriter(15);
+
+    // A link direction is overfull.
+    pub const OVERFULL_LINK: Refusal = Refusal::PlanWriter(16);
+
+    // A service is on a cabinet that it is barred from.
+    pub const BARRED_PLACE: Refusal = Refusal::PlanWriter(20);
+
+    // The tables are not those of such a sheet.
+    pub const NOT_ACCEPTED: Refusal = Refusal::PlanWriter(23);
+
     pub fn number(self) -> u16
         ensures { result ≡ number_of self }
     {
@@ -243,50 +231,55 @@ impl Sheet {
         self.pairs
     }
 
-    // Service i; nothing where the sheet has none, or the bytes end before it does.
-    pub fn service(self, bytes: &[u8], i: usize) -> ServiceRecord
+    // Service i; nothing where the sheet has none, or the bytes end before it does. A call for each kind of record and no generic one: each has a
+    // contract of its own, and C calls each by its name.
+    #[tactic(auto, unfolding(crate::specs::Records::service_record, crate::specs::Layout::service), using(crate::proofs::There::there_fits))]
+    pub fn service(self, bytes: &[u8], i: usize) -> Option<Service>
         ensures { result ≡ service_record self bytes.now i }
     {
         let at = self.services_at;
-        if is_there(self.services, Sheet::SERVICE, at, bytes.len(), i) {
-            return ServiceRecord::Given(read_service(&bytes[at..], i));
+        if !is_there(self.services, Sheet::SERVICE, at, bytes.len(), i) {
+            return None;
         }
-        ServiceRecord::Missing
+        Some(read_service(&bytes[at..], i))
     }
 
     // Cabinet c, in the same way.
-    pub fn cabinet(self, bytes: &[u8], c: usize) -> CabinetRecord
+    #[tactic(auto, unfolding(crate::specs::Records::cabinet_record, crate::specs::Layout::cabinet), using(crate::proofs::There::there_fits))]
+    pub fn cabinet(self, bytes: &[u8], c: usize) -> Option<Cabinet>
         ensures { result ≡ cabinet_record self bytes.now c }
     {
         let at = self.cabinets_at;
-        if is_there(self.cabinets, Sheet::CABINET, at, bytes.len(), c) {
-            return CabinetRecord::Given(read_cabinet(&bytes[at..], c));
+        if !is_there(self.cabinets, Sheet::CABINET, at, bytes.len(), c) {
+            return None;
         }
-        CabinetRecord::Missing
+        Some(read_cabinet(&bytes[at..], c))
     }
 
     // Stream j, in the same way.
-    pub fn stream(self, bytes: &[u8], j: usize) -> StreamRecord
+    #[tactic(auto, unfolding(crate::specs::Records::stream_record, crate::specs::Layout::stream), using(crate::proofs::There::there_fits))]
+    pub fn stream(self, bytes: &[u8], j: usize) -> Option<Stream>
         ensures { result ≡ stream_record self bytes.now j }
     {
         let at = self.streams_at;
-        if is_there(self.streams, Sheet::STREAM, at, bytes.len(), j) {
-            return StreamRecord::Given(read_stream(&bytes[at..], j));
+        if !is_there(self.streams, Sheet::STREAM, at, bytes.len(), j) {
+            return None;
         }
-        StreamRecord::Missing
+        Some(read_stream(&bytes[at..], j))
     }
 
     // Barred pair n, in the same way.
-    pub fn pair(self, bytes: &[u8], n: usize) -> PairRecord
+    #[tactic(auto, unfolding(crate::specs::Records::pair_record, crate::specs::Layout::pair), using(crate::proofs::There::there_fits, crate::proofs::There::none_past))]
+    pub fn pair(self, bytes: &[u8], n: usize) -> Option<Pair>
         ensures { result ≡ pair_record self bytes.now n }
     {
         let at = self.pairs_at;
         if bytes.len() < at {
-            return PairRecord::Missing;
+            return None;
         }
-        if is_there(self.pairs, Sheet::PAIR, Sheet::COUNT, bytes.len() - at, n) {
-            return PairRecord::Given(read_pair(&bytes[at..], n));
+        if !is_there(self.pairs, Sheet::PAIR, Sheet::COUNT, bytes.len() - at, n) {
+            return None;
         }
-        PairRecord::Missing
+        Some(read_pair(&bytes[at..], n))
     }
 }

@@ -1,7 +1,7 @@
 -- From filled tables to the answer: the root's figure decides, and the placing read back is that of the net's choices.
 use Rattle.std.specs.Prelude.{◌≡◌, ℕ, ◌+◌, ◌-◌, ◌*◌, ◌^◌, ◌<◌, ◌≤◌, Bool, true, false, cond, ◌&&◌, eqb, ltb, List, length, get_or}
 use native.Mathlib.Omega.{arith}
-use mathlib.Core.Path.{refl, sym, ap, ap₂, ◌∙◌}
+use mathlib.Core.Path.{refl, sym, ap, ◌∙◌}
 use lib.Pow.{pow_pos}
 use borrow.Author.Tests.{eqb-true, leb-true, leb-false}
 use Rattle.finite.specs.Below.{only}
@@ -19,13 +19,14 @@ use Rattle.subsets.specs.Inner.Kept as kept
 use Rattle.subsets.proofs.Sets.{full_lt}
 use Rattle.subsets.proofs.Bound.{row_bound}
 use Rattle.subsets.proofs.Back.{seat_table}
+use Rattle.rows.proofs.Parted.{row_within}
 use Rattle.solver.specs.Sound.{sound}
 use Rattle.rows.specs.Rebuilds.{entry}
-use Rattle.solver.specs.Tables.{netted, cost_entry, choice_entry, Filled, entries, decided, read_answer, least, PlacedBy, OutputOf, counts_in, fitting, updatable, Keeps, Updates}
+use Rattle.solver.specs.Tables.{netted, cost_entry, choice_entry, Filled, entries, decided, read_answer, least, PlacedBy, OutputOf, Ready, Readable, counts_in, fitting, updatable, Keeps, Updates}
 use Rattle.records.specs.declared.Records.{Records}
 use Rattle.solver.specs.declared.Kept.{Kept}
 use Rattle.solver.specs.declared.Kept.TheVariants.{Plan, NoPlan, Unfit}
-use Rattle.solver.proofs.Sounding.{Good, falls, nodes, links, small}
+use Rattle.solver.proofs.Sounding.{Good, good, few_services, falls, nodes, links, small}
 
 -- sound records and memory of the size that they need
 pub record Fit (k : Records) (output costs choices : ℕ) : Type 0 where
@@ -46,20 +47,40 @@ fit k o t u e =
       choices_size = eqb-true _ _ (both_r (eqb o k.services && eqb t (entries k)) _ a);
     }
 
--- tables of the same lengths fit too
-pub fits_again : (k : Records) (o t u : ℕ) → fitting k o t u ≡ true → (t₁ u₁ : ℕ) → t₁ ≡ t → u₁ ≡ u → fitting k o t₁ u₁ ≡ true
-fits_again k o t u f t₁ u₁ lt lu = ap₂ (λ (a b : ℕ). fitting k o a b) lt lu ∙ f
+-- where everything fits, what its parts ask for is met
+pub fits_services : (k : Records) (o t u : ℕ) → fitting k o t u ≡ true → k.services ≤ 10
+fits_services k o t u e = few_services k (fit k o t u e).is_sound
 
--- nothing is done where something does not fit
-pub unfit : (k : Records) (e : ℕ) (o t u : List ℕ) → (updatable k e (length o) (length t) (length u) ≡ true → ⊥) → Updates k e o o t t u u Unfit
-unfit k e o t u n = record {
-  answer = λ p. absurd (n p);
-  output = λ p. absurd (n p);
-  costs = λ p. absurd (n p);
-  choices = λ p. absurd (n p);
-  tables = λ p. absurd (n p);
-  left = λ p. (refl, refl, refl, refl);
-}
+pub fits_sets : (k : Records) (o t u : ℕ) → fitting k o t u ≡ true → 0 < 2 ^ k.services
+fits_sets k o t u e = pow_pos k.services
+
+pub fits_root : (k : Records) (o t u : ℕ) → fitting k o t u ≡ true → 2 ^ k.services - 1 < t
+fits_root k o t u e =
+    let F = fit k o t u e in
+    omega (arith, F.costs_size, row_within (2 ^ k.services) k.cabinets (good k F.is_sound).some_cabinet, pow_pos k.services)
+
+pub fits_reading : (k : Records) (o u : List ℕ) (t : ℕ) → fitting k (length o) t (length u) ≡ true → Readable k o u
+fits_reading k o u t e =
+    let F = fit k _ _ _ e in
+    record { is_sound = F.is_sound; places = F.output_size; choices = F.choices_size }
+
+pub fits_filling : (k : Records) (o size : ℕ) (t u : List ℕ) → fitting k o (length t) (length u) ≡ true → size ≡ 2 ^ k.services → Ready k size t u
+fits_filling k o size t u e s =
+    let F = fit k _ _ _ e in
+    record {
+      is_sound = F.is_sound;
+      row_size = s;
+      costs = F.costs_size ∙ ap (λ (n : ℕ). k.cabinets * n) (sym s);
+      choices = F.choices_size ∙ ap (λ (n : ℕ). k.cabinets * n) (sym s);
+    }
+
+-- anything but `Unfit` is answered only where everything fits
+pub answered : {k : Records} {o o' t t' u u' : List ℕ} {a : Kept} → Keeps k o o' t t' u u' a → (a ≡ Unfit → ⊥) → fitting k (length o) (length t) (length u) ≡ true
+answered {k} {o} {o'} {t} {t'} {u} {u'} {a} K n = go (fitting k (length o) (length t) (length u)) refl
+  where
+    go : (b : Bool) → fitting k (length o) (length t) (length u) ≡ b → fitting k (length o) (length t) (length u) ≡ true
+    go true e = e
+    go false e = absurd (n (K.left e).0)
 
 module _ (k : Records) (G : Good k) where
   -- the least charge, where there is one, is a figure
@@ -130,3 +151,15 @@ updates_keeps k e o o' t t' u u' a G up U F = record {
   tables = λ f. F;
   left = λ f. clash (sym (both_r (ltb e k.cabinets) _ up) ∙ f);
 }
+
+-- Filled tables that decide the answer are what a keeping call gives and leaves.
+pub keeps : (k : Records) (o o' t t' u u' : List ℕ) (n : ℕ) (a : Kept) → fitting k (length o) (length t) (length u) ≡ true → Filled k t' u' n
+    → a ≡ read_answer (get_or t' (full k.services) 0) n → PlacedBy k u' a o o' → Keeps k o o' t t' u u' a
+keeps k o o' t t' u u' n a f F e H =
+    let G = good k (fit k _ _ _ f).is_sound in
+    record {
+      answer = λ p. decides k G t' u' n F a e;
+      output = λ p. placed k G t' u' n F a o o' H;
+      tables = λ p. filled k G t' u' n F;
+      left = λ p. clash (sym f ∙ p);
+    }

@@ -1,6 +1,6 @@
 -- Where every row is what it is rebuilt from, every row is that of the records' net, and so are the choices and the count: from the last cabinet to the
 -- first. The same where the rows off a path are the net's already, and those on it are what they are rebuilt from.
-use Rattle.std.specs.Prelude.{◌≡◌, ℕ, zero, suc, ◌+◌, ◌*◌, ◌^◌, ◌<◌, ◌≤◌, Bool, true, false, ltb, ◌⊎◌, List}
+use Rattle.std.specs.Prelude.{◌≡◌, ℕ, zero, suc, ◌+◌, ◌*◌, ◌^◌, ◌<◌, ◌≤◌, Bool, true, false, ltb, ◌⊎◌, List, length}
 use native.Mathlib.Omega.{arith}
 use mathlib.Core.Logic.{⊎_elim, inl, inr}
 use mathlib.Core.Path.{refl, sym, ap, ap₂, ◌∙◌, subst, fun_ext}
@@ -32,12 +32,13 @@ use Rattle.rows.specs.Rebuilds.{entry, back_key, source, has_rows, fillable, Bui
 use Rattle.rows.specs.Paths.{on_path, Climbs}
 use Rattle.rows.proofs.Filling.{same_child}
 use Rattle.rows.proofs.Paired.{key_is}
+use Rattle.rows.proofs.Parted.{row_within}
 use Rattle.solver.specs.Sound.{sound}
 use Rattle.solver.specs.Sums.{SumsOf}
-use Rattle.solver.specs.Tables.{netted, cost_entry, choice_entry, Filled, Holding}
+use Rattle.solver.specs.Tables.{netted, cost_entry, choice_entry, Filled, Ready, Holding}
 use Rattle.records.specs.declared.flows.Flow.{Flow}
 use Rattle.records.specs.declared.Records.{Records}
-use Rattle.solver.proofs.Sounding.{Good, parents_fall, falls, nodes, links, small}
+use Rattle.solver.proofs.Sounding.{Good, good, parents_fall, falls, nodes, links, small, sets_le}
 
 -- the row of p, and the choices of its children, are those of the net
 pub record Right (k : Records) (t u : List ℕ) (p : ℕ) : Type 0 where
@@ -192,3 +193,13 @@ all_tests k e G sums t u s costs choices =
     both (has_rows k.services k.cabinets sums t u) _
     (rw (le-leb _ _ G.services, le-leb _ _ G.cabinets, le-leb all_sums sums (omega arith), le-leb (k.cabinets * 2 ^ k.services) t (omega arith)) (le-leb (k.cabinets * 2 ^ k.services) u (omega arith)))
     (parents_fall k e)
+
+-- the root's row lies within a choice table
+pub first_row : {k : Records} {size : ℕ} {t u : List ℕ} → Ready k size t u → size ≤ length u
+first_row {k} {size} P = omega (arith, row_within size k.cabinets (good k P.is_sound).some_cabinet, P.choices)
+
+-- what the sums of all sets ask for
+pub ready_services : {k : Records} {size : ℕ} {t u : List ℕ} → Ready k size t u → (size ≤ 1024) × (k.services ≤ 10) × (k.streams ≤ 100)
+ready_services {k} {size} P =
+    let G = good k P.is_sound in
+    (omega (arith, P.row_size, sets_le k G), G.services, G.streams)

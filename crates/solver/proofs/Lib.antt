@@ -1,5 +1,5 @@
 -- What the proofs of the code share.
-mod Written
+mod Testing
 mod Summing
 pub mod Sounding
 mod Filling

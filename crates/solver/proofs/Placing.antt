@@ -1,7 +1,8 @@
 -- The digits of the key read back from the root are the cabinets of the services.
-use Rattle.std.specs.Prelude.{◌≡◌, ℕ, ◌-◌, ◌^◌, ◌<◌, true, leb, List, length}
+use Rattle.std.specs.Prelude.{◌≡◌, ℕ, suc, ◌+◌, ◌-◌, ◌/◌, ◌^◌, ◌<◌, true, leb, List, length}
 use native.Mathlib.Omega.{arith}
-use mathlib.Core.Path.{refl, ap, ◌∙◌}
+use native.Mathlib.Nat.{div-div-eq-div-mul, pow-suc}
+use mathlib.Core.Path.{refl, sym, ap, ◌∙◌}
 use borrow.Author.Tests.{le-leb}
 use Rattle.finite.proofs.Booleans.{both}
 use Rattle.subsets.specs.Inner.Masks.{full}
@@ -18,6 +19,10 @@ use Rattle.records.specs.declared.Records.{Records}
 use Rattle.solver.specs.Tables.{netted, Readable}
 use Rattle.solver.proofs.Sounding.{Good, good, falls}
 use Rattle.solver.proofs.Filling.{all_tests}
+
+-- a number without its last i digits, and without one more
+pub next_quotient : (n i : ℕ) → n / base ^ i / base ≡ n / base ^ (i + 1)
+next_quotient n i = div-div-eq-div-mul n (base ^ i) base ∙ ap (λ (z : ℕ). n / z) (sym (pow-suc base i)) ∙ ap (λ (z : ℕ). n / base ^ z) (let q : suc i ≡ i + 1 = omega arith in q)
 
 module _ (k : Records) (o u : List ℕ) (P : Readable k o u) where
   sounds : Good k

@@ -106,6 +106,14 @@ good k e =
       root = (eqb-true _ _ h.0, eqb-true _ _ h.1, eqb-true _ _ h.2, eqb-true _ _ h.3);
     }
 
+pub few_services : (k : Records) → sound k ≡ true → k.services ≤ 10
+few_services k e = (good k e).services
+
+pub few_entries : (k : Records) → sound k ≡ true → k.cabinets * 2 ^ k.services ≤ 204800
+few_entries k e =
+    let G = good k e in
+    omega (arith, mul-le-mul G.cabinets (pow-le-pow_right {n = 2} (omega arith) G.services))
+
 -- a product of two amounts
 product_le : (a m n : ℕ) → a ≤ m → m ≤ 10000 → n ≤ 10000 → a * n ≤ 100000000
 product_le a m n h i j = omega (arith, mul-le-mul (let z : a ≤ 10000 = omega arith in z) j)

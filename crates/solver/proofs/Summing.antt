@@ -1,5 +1,5 @@
 -- The sums over services and streams, one more at a time.
-use Rattle.std.specs.Prelude.{◌≡◌, ℕ, ◌+◌, ◌*◌, ◌<◌, ◌≤◌, not, ◌&&◌, List, length, get_or, set}
+use Rattle.std.specs.Prelude.{◌≡◌, ℕ, ◌+◌, ◌*◌, ◌<◌, Bool, true, false, not, ◌&&◌, List, length, get_or, set}
 use native.Mathlib.Omega.{arith}
 use native.Mathlib.Numerals.{add-one}
 use mathlib.Core.Path.{refl, ap, ap₂, ◌∙◌}
@@ -8,31 +8,56 @@ use lib.Seq.{get_or-set_same, get_or-set_other}
 use borrow.Author.Count.{below_more}
 use Rattle.finite.specs.Below.{only, sum_below}
 use Rattle.subsets.specs.Sets.{has}
+use Rattle.records.specs.Flows.{frames_in}
 use Rattle.rows.specs.Charges.{max_sets, all_sums, out_row, into_row, demanded, flow_at, run_out, run_in}
 use Rattle.solver.specs.Sums.{demand_in, sum_out, flow_out, put, SumsOf}
 use Rattle.records.specs.declared.flows.Flow.{Flow}
 use Rattle.records.specs.declared.Records.{Records}
 
-sum_next : (n : ℕ) (f : ℕ → ℕ) → sum_below (n + 1) f ≡ sum_below n f + f n
-unfolding sum_below
-sum_next n f = ap (λ (m : ℕ). sum_below m f) (add-one n)
+module _ (n : ℕ) (p : ℕ → Bool) (f : ℕ → ℕ) where
+  -- the sum of f over the numbers that pass, with one more
+  sum_next : sum_below (n + 1) (λ i. only (p i) (f i)) ≡ sum_below n (λ i. only (p i) (f i)) + only (p n) (f n)
+  unfolding sum_below
+  sum_next = ap (λ (m : ℕ). sum_below m (λ i. only (p i) (f i))) (add-one n)
+
+  sum_taken : p n ≡ true → sum_below (n + 1) (λ i. only (p i) (f i)) ≡ sum_below n (λ i. only (p i) (f i)) + f n
+  unfolding only
+  sum_taken e = sum_next ∙ rw e refl
+
+  sum_left : p n ≡ false → sum_below (n + 1) (λ i. only (p i) (f i)) ≡ sum_below n (λ i. only (p i) (f i))
+  unfolding only
+  sum_left e = sum_next ∙ rw e (omega arith)
 
 pub no_demand : (demand : List ℕ) (x : ℕ) → 0 ≡ demand_in demand 0 x
 unfolding demand_in sum_below
 no_demand demand x = refl
 
-pub demand_next : (demand : List ℕ) (i x : ℕ) → demand_in demand (i + 1) x ≡ demand_in demand i x + only (has x i) (get_or demand i 0)
-unfolding demand_in
-demand_next demand i x = sum_next i (λ d. only (has x d) (get_or demand d 0))
+module _ (demand : List ℕ) (i x : ℕ) where
+  pub demand_taken : has x i ≡ true → demand_in demand (i + 1) x ≡ demand_in demand i x + get_or demand i 0
+  unfolding demand_in
+  demand_taken = sum_taken i (has x) (λ d. get_or demand d 0)
 
-pub no_sum : (from to : List ℕ) (f : ℕ → ℕ) (x : ℕ) → 0 ≡ sum_out from to f 0 x
+  pub demand_left : has x i ≡ false → demand_in demand (i + 1) x ≡ demand_in demand i x
+  unfolding demand_in
+  demand_left = sum_left i (has x) (λ d. get_or demand d 0)
+
+pub no_flow : (from to load : List ℕ) (x : ℕ) → ◌≡◌ {A = Flow} (record { demand = 0; frames = 0 }) (flow_out from to load 0 x)
 unfolding sum_out sum_below
-no_sum from to f x = refl
+no_flow from to load x = refl
 
-pub sum_out_next : (from to : List ℕ) (f : ℕ → ℕ) (j x : ℕ)
-    → sum_out from to f (j + 1) x ≡ sum_out from to f j x + only (has x (get_or from j 0) && not (has x (get_or to j 0))) (f j)
-unfolding sum_out
-sum_out_next from to f j x = sum_next j (λ d. only (has x (get_or from d 0) && not (has x (get_or to d 0))) (f d))
+module _ (from to load : List ℕ) (j x : ℕ) where
+  -- whether stream d runs out of x
+  abbrev pub leaving : ℕ → Bool
+  leaving d = has x (get_or from d 0) && not (has x (get_or to d 0))
+
+  pub flow_taken : leaving j ≡ true → flow_out from to load (j + 1) x
+      ≡ record { demand = (flow_out from to load j x).demand + get_or load j 0; frames = (flow_out from to load j x).frames + frames_in (get_or load j 0) }
+  unfolding sum_out
+  flow_taken e = ap₂ (λ (d f : ℕ). record { demand = d; frames = f }) (sum_taken j leaving (λ d. get_or load d 0) e) (sum_taken j leaving (λ d. frames_in (get_or load d 0)) e)
+
+  pub flow_left : leaving j ≡ false → flow_out from to load (j + 1) x ≡ flow_out from to load j x
+  unfolding sum_out
+  flow_left e = ap₂ (λ (d f : ℕ). record { demand = d; frames = f }) (sum_left j leaving (λ d. get_or load d 0) e) (sum_left j leaving (λ d. frames_in (get_or load d 0)) e)
 
 -- ---- what runs for one set, written into the array of sums
 
@@ -117,12 +142,4 @@ summed_next k x l d o i h S p q s = record {
   demand = below_more _ x (λ y m. demand_kept l x d o i h S.size y (omega arith) ∙ get_or-set_other l x y d 0 (λ z. omega arith) ∙ S.demand y m) (demand_kept l x d o i h S.size x h ∙ get_or-set_same l x d 0 (omega (arith, S.size)) ∙ p);
   leaves = below_more _ x (λ y m. flows_kept l x d o i h S.size out_row y (omega arith) m ∙ S.leaves y m) (out_there l x d o i h S.size ∙ q);
   enters = below_more _ x (λ y m. flows_kept l x d o i h S.size into_row y (omega arith) m ∙ S.enters y m) (in_there l x d o i h S.size ∙ s);
-}
-
-pub summed_all : (k : Records) (n x : ℕ) (l : List ℕ) → n ≤ x → SumsOf k x l → SumsOf k n l
-summed_all k n x l h S = record {
-  size = S.size;
-  demand = λ y m. S.demand y (omega arith);
-  leaves = λ y m. S.leaves y (omega arith);
-  enters = λ y m. S.enters y (omega arith);
 }

@@ -12,17 +12,19 @@ use rows::{LOW_DIGITS, root_key};
 use sheet::Sheet;
 use subsets::Key;
 
+// A key has a digit for each cabinet there can be.
+const BASE: u64 = Sheet::MAX_CABINETS as u64;
+
 // The digit of a number with so many digits after it.
+#[tactic(auto, using(crate::proofs::Placing::next_quotient))]
 fn digit_of(number: u64, after: usize) -> u64
     ensures { (result ≡ digit base number after) × (result < base) }
 {
     let mut rest = number;
-    let mut i = 0;
-    while i < after {
-        rest = rest / Sheet::MAX_CABINETS as u64;
-        i += 1;
+    for _ in 0..after {
+        rest /= BASE;
     }
-    rest % Sheet::MAX_CABINETS as u64
+    rest % BASE
 }
 
 // The digit of a key with so many digits after it: the last digits are in its low part.
@@ -37,16 +39,15 @@ fn place_in(key: Key, after: usize) -> u64
 }
 
 // The placing of all services on the whole tree, one place a service: the digits of its key, in the order of the services.
-pub(crate) fn read_places(output: &mut [u16], records: Records, choices: &[u16])
-    requires { Readable records output.old choices.now }
-    ensures { (i : ℕ) → i < records.services → slice_index output.new i
-        ≡ seat (netted records) (entry (2 ^ records.services) choices.now) 0 records.cabinets (full records.services) i }
+#[tactic(auto, using(crate::proofs::Placing::root_digit))]
+pub(crate) fn read_places(output: &mut [u16], records: &Records, choices: &[u16])
+    requires { Readable records.now output.old choices.now }
+    ensures { (i : ℕ) → i < records.now.services → slice_index output.new i
+        ≡ seat (netted records.now) (entry (2 ^ records.now.services) choices.now) 0 records.now.cabinets (full records.now.services) i }
 {
     let key = root_key(records, choices);
     let r = output.len();
-    let mut i = 0;
-    while i < r {
-        output[i] = place_in(key, r - 1 - i) as u16;
-        i += 1;
+    for (i, place) in output.iter_mut().enumerate() {
+        *place = place_in(key, r - 1 - i) as u16;
     }
 }

@@ -1,5 +1,5 @@
 -- Laws of sets as binary digits: membership, what a test keeps of a set, subsets, complement by subtraction, one more service, and sets apart.
-use Rattle.std.proofs.Common.{◌≡◌, ℕ, zero, suc, ◌+◌, ◌-◌, ◌*◌, ◌/◌, ◌%◌, ◌^◌, ◌<◌, ◌≤◌, min, max, Bool, true, false, not, ◌&&◌, ◌||◌, eqb, sym, refl, ap, ◌∙◌, mod-eq_of_lt, div-one, arith, shr-shr, eq-eqb, ne_eqb, eqb-true}
+use Rattle.std.proofs.Common.{◌≡◌, ℕ, zero, suc, ◌+◌, ◌-◌, ◌*◌, ◌/◌, ◌%◌, ◌^◌, ◌<◌, ◌≤◌, min, max, Bool, true, false, not, ◌&&◌, ◌||◌, eqb, ltb, sym, refl, ap, ◌∙◌, mod-eq_of_lt, div-one, arith, shr-shr, le-ltb, eq-eqb, ne_eqb, eqb-true}
 use mathlib.Core.Bool.{and-true, and-false, and_assoc}
 use native.Mathlib.Nat.{one-le-pow}
 use lib.Dec.{eqb-zero-suc, eqb-suc-zero, eqb-suc-suc}
@@ -69,6 +69,10 @@ has_past zero x zero h k = ap (λ (y : ℕ). eqb (y % 2) 1) (let q : x ≡ 0 = o
 has_past zero x (suc i) h k = has_past zero (x / 2) i (omega arith) (omega arith)
 has_past (suc n) x zero h k = absurd (omega arith)
 has_past (suc n) x (suc i) h k = has_past n (x / 2) i (omega arith) (omega arith)
+
+-- so a number of 64 bits has no service from 64 on
+pub past_64 : (x i : ℕ) → x < 2 ^ 64 → 64 ≤ i → ltb i 64 ≡ has x i
+past_64 x i h k = le-ltb i 64 k ∙ sym (has_past 64 x i h k)
 
 -- ---- what a test keeps, with no digits
 

@@ -1,21 +1,20 @@
 // Weighing a split, settling ties, the powers of three, and sets of services as the binary digits of a number.
 #![tactic(auto)]
 
-ghost use Rattle.std.specs.Prelude.{◌≡◌, ◌-◌, min, if◌then◌else◌, bit_and};
+ghost use Rattle.std.specs.Prelude.{◌<◌, ◌^◌, ◌≡◌, ◌-◌, min, if◌then◌else◌, bit_and};
 ghost use Rattle.finite.specs.Below.{only};
-ghost use Rattle.subsets.specs.Sets.{has};
+ghost use Rattle.subsets.specs.Sets.{has, set_count};
 ghost use Rattle.subsets.specs.Figures.{is_cost, weighing};
 ghost use Rattle.subsets.specs.Powers.{power_of_three};
 ghost use Rattle.subsets.specs.Inner.Folds.{may_tie, is_tie, key_before};
 
-use std::num::wrapping_add_u64;
-
 // The largest figure that is a cost. Any number above it is 'none'.
 pub const LIMIT: u64 = 1000000000000000;
 
-// The figure that stands for 'none' where no other is given.
+// The figure that stands for 'none' where no other is given. A figure and no Option: 01 and C have costs and 'none' in one number, and any may come.
 pub const NONE: u64 = 1000000000000001;
 
+// What weighing a split answers: the best cost now, and whether the split counts: 1 or 0 and no bool, as C takes a number here and the count is their sum.
 #[derive(Clone, Copy)]
 pub struct Weighed {
     pub best: u64,
@@ -30,8 +29,9 @@ pub struct Best {
     pub counted: u64,
 }
 
-// The key of a placing, by which ties are settled: a number in two parts, its first digits and its others.
-#[derive(Clone, Copy)]
+// The key of a placing, by which ties are settled: a number in two parts, its first digits and its others. Keys are ordered by the first digits, then by
+// the others.
+#[derive(Clone, Copy, PartialEq, Eq, PartialOrd, Ord)]
 pub struct Key {
     pub high: u64,
     pub low: u64,
@@ -44,23 +44,20 @@ fn is_cost(figure: u64) -> bool
     figure <= LIMIT
 }
 
-// The number where it is allowed and lower than the best, else the best.
+// The lesser of the best and the number where that is allowed, else the best.
 fn lower(best: u64, number: u64, allowed: bool) -> u64
     ensures { result ≡ (if allowed then min best number else best) }
 {
-    if allowed & (number < best) {
-        number
-    } else {
-        best
-    }
+    if allowed { best.min(number) } else { best }
 }
 
 // Weighs one split: the lesser of `best` and the sum of the other three figures, and 1 where `placed` is a cost.
 // The sum is taken before the figures are tested, so that no branch depends on them; only a sum of costs is used.
+#[tactic(auto, unfolding(crate::specs::Figures::weighing, crate::specs::Figures::lesser_figure, finite::specs::Below::only))]
 pub fn weigh(best: u64, placed: u64, rest: u64, link: u64) -> Weighed
     ensures { result ≡ weighing best placed rest link }
 {
-    let sum = wrapping_add_u64(wrapping_add_u64(placed, rest), link);
+    let sum = placed.wrapping_add(rest).wrapping_add(link);
     let costs = is_cost(placed) & is_cost(rest) & is_cost(link);
     Weighed {
         best: lower(best, sum, costs),
@@ -70,13 +67,15 @@ pub fn weigh(best: u64, placed: u64, rest: u64, link: u64) -> Weighed
 
 // Whether the three figures, costs or not, sum to the best. Where they do not there is no tie. Where they do, and none of them is above NONE, there is one,
 // or no split was found yet.
+#[tactic(auto, unfolding(crate::specs::Inner::Folds::may_tie))]
 pub fn may_tie(best: u64, placed: u64, rest: u64, link: u64) -> bool
     ensures { result ≡ may_tie best placed rest link }
 {
-    wrapping_add_u64(wrapping_add_u64(placed, rest), link) == best
+    placed.wrapping_add(rest).wrapping_add(link) == best
 }
 
 // Whether a split costs just as much as the best: its three figures are costs, and their sum is the best.
+#[tactic(auto, unfolding(crate::specs::Inner::Folds::is_tie, crate::specs::Inner::Folds::may_tie), using(crate::proofs::Ties::tie_sum))]
 pub fn is_tie(best: u64, placed: u64, rest: u64, link: u64) -> bool
     ensures { result ≡ is_tie best placed rest link }
 {
@@ -84,62 +83,51 @@ pub fn is_tie(best: u64, placed: u64, rest: u64, link: u64) -> bool
 }
 
 // Whether the first key comes before the second.
+#[tactic(auto, unfolding(crate::specs::Inner::Folds::key_before))]
 pub fn comes_before(first: Key, second: Key) -> bool
     ensures { result ≡ key_before first second }
 {
-    if first.high == second.high {
-        return first.low < second.low;
-    }
-    first.high < second.high
+    first < second
 }
 
-// The largest number whose triple fits 64 bits.
-const LARGEST_TRIPLED: u64 = u64::MAX / 3;
-
-// A power of three, where it fits 64 bits.
-#[derive(Clone, Copy)]
-pub enum Power {
-    Value(u64),
-    Outside,
-}
-
-// 3^r by repeated multiplication. It is left as soon as a power would not fit.
-pub fn power_of_three(r: usize) -> Power
+// 3^r, where it fits 64 bits, by repeated multiplication. It is left as soon as a power would not fit.
+#[tactic(auto, using(crate::proofs::Powers::power_fits, crate::proofs::Powers::power_past))]
+pub fn power_of_three(r: usize) -> Option<u64>
     ensures { result ≡ power_of_three r }
 {
-    let mut power = 1;
-    let mut i = 0;
-    while i < r {
-        if LARGEST_TRIPLED < power {
-            return Power::Outside;
-        }
-        power = 3 * power;
-        i = i + 1;
+    let mut power = 1u64;
+    for _ in 0..r {
+        power = power.checked_mul(3)?;
     }
-    Power::Value(power)
+    Some(power)
+}
+
+// How many sets of r services there are, where 64 bits hold it; else 0.
+#[tactic(auto, unfolding(crate::specs::Sets::set_count))]
+pub fn sets_of(r: usize) -> usize
+    ensures count { result ≡ set_count r }
+    ensures power { r < 64 → result ≡ 2 ^ r }
+{
+    if r < 64 { 1 << r } else { 0 }
 }
 
 // The largest subset of x below a, where a is a subset of x and not empty.
 pub fn next_subset(a: usize, x: usize) -> usize
     ensures { result ≡ bit_and (a - 1) x }
 {
-    if a == 0 {
-        return 0;
-    }
-    (a - 1) & x
+    a.saturating_sub(1) & x
 }
 
 // Whether service i is in the set x.
+#[tactic(auto, using(crate::proofs::Sets::has_bit, crate::proofs::Sets::past_64))]
 pub fn member(x: usize, i: usize) -> bool
     ensures { result ≡ has x i }
 {
-    if 64 <= i {
-        return false;
-    }
-    (x >> i) & 1 == 1
+    i < 64 && (x >> i) & 1 == 1
 }
 
 // n where the test passes, else 0.
+#[tactic(auto, unfolding(finite::specs::Below::only))]
 pub fn only_if(test: bool, n: u64) -> u64
     ensures { result ≡ only test n }
 {

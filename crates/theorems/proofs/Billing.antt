@@ -11,21 +11,18 @@ use Rattle.sheet.specs.Limits.{max_services, max_cabinets}
 use Rattle.sheet.specs.Instance.{Instance, instance}
 use Rattle.sheet.specs.declared.Sheet.{Sheet}
 use Rattle.sheet.specs.declared.Refusal.{Refusal}
-use Rattle.sheet.specs.declared.Reading.TheVariants.{Accepted}
+use Rattle.std.specs.Prelude.{Ok, Err}
 use Rattle.sheet.specs.Reading.{reading}
 use Rattle.sheet.proofs.Promises.{well_formed}
 use Rattle.embedding.specs.First.{places}
 use Rattle.embedding.specs.Road.{up, down}
 use Rattle.embedding.specs.Plan.{place, carried}
 use Rattle.embedding.proofs.First.{places_length}
-use Rattle.checker.specs.Check.{checked}
-use Rattle.checker.specs.declared.Checked.{Checked}
+use Rattle.checker.specs.Check.{Checked, checked}
 use Rattle.tidy.specs.Copy.{tidied}
 use Rattle.bill.specs.Lines.{started, tax_on, directions, line_count, service_line, blocks, link_line, line, tax, total}
-use Rattle.bill.specs.Answers.{bill_numbers, billed_after, billed, lines_after}
+use Rattle.bill.specs.Answers.{bill_numbers, billed_after, billed, lines_after, bill_of, Billed}
 use Rattle.bill.specs.declared.tariff.Tariff.{Tariff}
-use Rattle.bill.specs.declared.Billed.{Billed}
-use Rattle.bill.specs.declared.Billed.TheVariants.{Bill, Refused}
 use Rattle.bill.proofs.Put.{front_at}
 use Rattle.bill.proofs.Figures.{line_link, line_service, lines_sum, net_low, rated_low, total_low}
 use Rattle.bill.proofs.Answers.{billable, made_iff, bill_answered}
@@ -36,7 +33,7 @@ use Rattle.theorems.specs.Promised.{Given, LinesLeft}
 -- ---- the answer, and the lines after it
 
 pub either : (bytes plan : List ℕ) (t : Tariff) (n : ℕ) →
-    ((m : ℕ) × (x : ℕ) × (k : ℕ) × (billed bytes plan t n ≡ Bill m x k)) ⊎ ((f : Refusal) × (billed bytes plan t n ≡ Refused f) × Given bill_numbers f)
+    ((m : ℕ) × (x : ℕ) × (k : ℕ) × (billed bytes plan t n ≡ bill_of m x k)) ⊎ ((f : Refusal) × (billed bytes plan t n ≡ Err f) × Given bill_numbers f)
 either bytes plan t n = ⊎_elim inl (λ a. inr (a.0, a.1, record { grouped = a.2; listed = a.3 })) (bill_answered bytes plan t n)
 
 module _ (bytes plan lines lines' : List ℕ) (t : Tariff) where
@@ -47,7 +44,7 @@ module _ (bytes plan lines lines' : List ℕ) (t : Tariff) where
   π = place plan
 
   -- the lines after a bill
-  after : (a : Billed) → lines' ≡ lines_after I π t a lines → (m x k : ℕ) → a ≡ Bill m x k → lines' ≡ places (line_count I) (line I π t) ++ drop (line_count I) lines
+  after : (a : Billed) → lines' ≡ lines_after I π t a lines → (m x k : ℕ) → a ≡ bill_of m x k → lines' ≡ places (line_count I) (line I π t) ++ drop (line_count I) lines
   unfolding lines_after
   after a o m x k q = o ∙ ap (λ (b : Billed). lines_after I π t b lines) q
 
@@ -65,25 +62,25 @@ module _ (bytes plan lines lines' : List ℕ) (t : Tariff) where
       }
 
   -- the sums
-  pub sums : (m x k : ℕ) → billed bytes plan t (length lines) ≡ Bill m x k → lines' ≡ lines_after I π t (Bill m x k) lines →
+  pub sums : (m x k : ℕ) → billed bytes plan t (length lines) ≡ bill_of m x k → lines' ≡ lines_after I π t (bill_of m x k) lines →
       (sum_below (line_count I) (λ n. get_or lines' n 0) ≡ m) × (x ≡ tax_on m t.tax_rate) × (k ≡ m + x)
   unfolding tax total
   sums m x k e o =
       let made = (made_iff bytes plan t (length lines) m x k).0 e in (
-        sum_ext (line_count I) _ _ (λ n l. ((left (Bill m x k) (sym e) o).billed m x k refl).1 n l) ∙ lines_sum I π t ∙ sym made.3,
+        sum_ext (line_count I) _ _ (λ n l. ((left (bill_of m x k) (sym e) o).billed m x k refl).1 n l) ∙ lines_sum I π t ∙ sym made.3,
         made.4 ∙ ap (λ (n : ℕ). tax_on n t.tax_rate) (sym made.3),
         made.5 ∙ ap₂ (λ (a b : ℕ). a + b) (sym made.3) (sym made.4),
       )
 
 -- ---- how many lines there are, and how high the figures are
 
-pub room : (bytes : List ℕ) (h : Sheet) → reading bytes ≡ Accepted h →
+pub room : (bytes : List ℕ) (h : Sheet) → reading bytes ≡ Ok h →
     (line_count (instance bytes) ≡ 2 * ((instance bytes).s - 1) + (instance bytes).r)
     × (line_count (instance bytes) ≤ 2 * (max_cabinets - 1) + max_services)
 unfolding line_count directions
 room bytes h reads = let W = well_formed bytes h reads in (refl, omega (arith, W.cabinets, W.services))
 
-pub low : (bytes plan : List ℕ) (t : Tariff) (lines m x k : ℕ) → billed bytes plan t lines ≡ Bill m x k →
+pub low : (bytes plan : List ℕ) (t : Tariff) (lines m x k : ℕ) → billed bytes plan t lines ≡ bill_of m x k →
     ((n : ℕ) → n < line_count (instance bytes) → line (instance bytes) (place plan) t n ≤ m)
     × (m < 2 ^ 31)
     × (m * t.tax_rate + 500 < 2 ^ 64)
@@ -114,7 +111,7 @@ module _ (I : Instance) (π : ℕ → ℕ) (t : Tariff) where
 
 -- ---- a tidy copy
 
-pub same_billed : (bytes : List ℕ) (h : Sheet) → reading bytes ≡ Accepted h → (plan : List ℕ) (t : Tariff) (n : ℕ) →
+pub same_billed : (bytes : List ℕ) (h : Sheet) → reading bytes ≡ Ok h → (plan : List ℕ) (t : Tariff) (n : ℕ) →
     billed (tidied (instance bytes)) plan t n ≡ billed bytes plan t n
 unfolding billed
 same_billed bytes h reads plan t n =

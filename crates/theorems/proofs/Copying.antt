@@ -6,16 +6,14 @@ use mathlib.Core.List.{List, ◌++◌}
 use lib.ListN.{length, take, drop, get_or}
 use lib.Seq.{take_at}
 use Rattle.sheet.specs.Refusals.{first_applying}
-use Rattle.sheet.specs.Reading.{reading}
+use Rattle.sheet.specs.Reading.{Reading, reading}
 use Rattle.sheet.specs.Instance.{Instance, WellFormed, instance}
 use Rattle.sheet.specs.Said.{Said}
 use Rattle.sheet.specs.Records.{pair_record}
 use Rattle.sheet.specs.declared.Sheet.{Sheet}
 use Rattle.sheet.specs.declared.Pair.{Pair}
-use Rattle.sheet.specs.declared.PairRecord.TheVariants as pairs
 use Rattle.sheet.specs.declared.Refusal.{Refusal}
-use Rattle.sheet.specs.declared.Reading.{Reading}
-use Rattle.sheet.specs.declared.Reading.TheVariants.{Accepted}
+use Rattle.std.specs.Prelude.{Ok, Err, Some}
 use Rattle.sheet.proofs.Promises.{well_formed, said}
 use Rattle.checker.specs.Check.{plan_checked, checked_after, checked}
 use Rattle.planner.specs.Answers as plans
@@ -26,8 +24,6 @@ use Rattle.tidy.specs.Copy.{copy_length, tidied}
 use Rattle.tidy.specs.Answers as answers
 use Rattle.tidy.specs.Answers.{tidy_numbers, written, tidy_answer, output_after}
 use Rattle.tidy.specs.Agree.{Agree}
-use Rattle.tidy.specs.declared.Written as tidy
-use Rattle.tidy.specs.declared.Written.TheVariants.{Bytes, Refused}
 use Rattle.tidy.proofs.Accepted.{accepted}
 use Rattle.tidy.proofs.Agreeing.{agree_iff}
 use Rattle.tidy.proofs.Bounds.{copy_bytes}
@@ -42,10 +38,10 @@ use Rattle.theorems.specs.Promised.{Given, SheetLeft}
 -- ---- the answer, and the output after it
 
 pub either : (bytes : List ℕ) (n : ℕ) →
-    ((m : ℕ) × (tidy_answer bytes n ≡ Bytes m)) ⊎ ((f : Refusal) × (tidy_answer bytes n ≡ Refused f) × Given tidy_numbers f)
+    ((m : ℕ) × (tidy_answer bytes n ≡ Ok m)) ⊎ ((f : Refusal) × (tidy_answer bytes n ≡ Err f) × Given tidy_numbers f)
 either bytes n = ⊎_elim inl (λ a. inr (a.0, a.1, record { grouped = a.2; listed = a.3 })) (tidy_answered bytes n)
 
-pub left : (bytes output output' : List ℕ) (a : tidy.Written) →
+pub left : (bytes output output' : List ℕ) (a : answers.Written) →
     a ≡ tidy_answer bytes (length output) →
     output' ≡ output_after (tidied (instance bytes)) a output →
     SheetLeft (tidied (instance bytes)) a output output'
@@ -55,20 +51,20 @@ left bytes output output' a e o =
       written = λ n q.
           let w = tidy_written bytes (length output) n (sym e ∙ q) in
           let l : n ≡ length (tidied (instance bytes)) = w.1 ∙ sym (copied_length (instance bytes)) in
-          let f : output' ≡ tidied (instance bytes) ++ drop n output = o ∙ ap (λ (b : tidy.Written). output_after (tidied (instance bytes)) b output) q in
+          let f : output' ≡ tidied (instance bytes) ++ drop n output = o ∙ ap (λ (b : answers.Written). output_after (tidied (instance bytes)) b output) q in
           (l, ap (take n) f ∙ take_at (tidied (instance bytes)) (drop n output) n (sym l), front_written n (tidied (instance bytes)) output output' (sym l) w.2 f);
-      refused = λ f q. o ∙ ap (λ (b : tidy.Written). output_after (tidied (instance bytes)) b output) q;
+      refused = λ f q. o ∙ ap (λ (b : answers.Written). output_after (tidied (instance bytes)) b output) q;
     }
 
 -- ---- the copy
 
 pub says_the_same : (I : Instance) → WellFormed I → Said I →
-    ((k : Sheet) × (reading (tidied I) ≡ Accepted k)) × (instance (tidied I) ≡ I) × ((n : ℕ) → get_or (tidied I) n 0 < 256)
+    ((k : Sheet) × (reading (tidied I) ≡ Ok k)) × (instance (tidied I) ≡ I) × ((n : ℕ) → get_or (tidied I) n 0 < 256)
 says_the_same I W S = ((_, accepted I W S.root_parent), same_copy I W S, copy_bytes I W S.root_parent)
 
 -- each pair of a copy comes before the next
-pub rises : (I : Instance) → WellFormed I → Said I → (k : Sheet) → reading (tidied I) ≡ Accepted k → (n : ℕ) (p q : Pair) →
-    pair_record k (tidied I) n ≡ pairs.Given p → pair_record k (tidied I) (n + 1) ≡ pairs.Given q →
+pub rises : (I : Instance) → WellFormed I → Said I → (k : Sheet) → reading (tidied I) ≡ Ok k → (n : ℕ) (p q : Pair) →
+    pair_record k (tidied I) n ≡ Some p → pair_record k (tidied I) (n + 1) ≡ Some q →
     (p.service < q.service) ⊎ ((p.service ≡ q.service) × (p.cabinet < q.cabinet))
 rises I W S k e n p q f g =
     let h : k ≡ tidy_sheet I = its_sheet (sym e ∙ accepted I W S.root_parent) in
@@ -76,18 +72,18 @@ rises I W S k e n p q f g =
     (ap (λ (x : Sheet). pair_record x (tidied I) n) (sym h) ∙ f)
     (ap (λ (x : Sheet). pair_record x (tidied I) (n + 1)) (sym h) ∙ g)
   where
-    its_sheet : {h k : Sheet} → Accepted h ≡ Accepted k → h ≡ k
+    its_sheet : {h k : Sheet} → ◌≡◌ {A = Reading} (Ok h) (Ok k) → h ≡ k
     its_sheet e = cc
 
 -- a call that answers by the instance alone, once a sheet is accepted, answers for the copy as for the sheet
-module _ (bytes : List ℕ) (h : Sheet) (reads : reading bytes ≡ Accepted h) where
+module _ (bytes : List ℕ) (h : Sheet) (reads : reading bytes ≡ Ok h) where
   abbrev I : Instance
   I = instance bytes
 
   abbrev copy : List ℕ
   copy = tidied I
 
-  pub same : ((k : Sheet) × (reading copy ≡ Accepted k)) × (instance copy ≡ I) × ((n : ℕ) → get_or copy n 0 < 256)
+  pub same : ((k : Sheet) × (reading copy ≡ Ok k)) × (instance copy ≡ I) × ((n : ℕ) → get_or copy n 0 < 256)
   same = says_the_same I (well_formed bytes h reads) (said bytes h reads)
 
   pub same_planned : (output costs choices : ℕ) (span : Span) → planned copy output costs choices span ≡ planned bytes output costs choices span
@@ -112,7 +108,7 @@ module _ (bytes : List ℕ) (h : Sheet) (reads : reading bytes ≡ Accepted h) w
       ∙ sym (ap (λ (r : Reading). answers.answered r I n) reads)
 
 -- equal copies have the same instance
-pub equal : (bytes : List ℕ) (h : Sheet) (reads : reading bytes ≡ Accepted h) (others : List ℕ) (k : Sheet) (reads' : reading others ≡ Accepted k) →
+pub equal : (bytes : List ℕ) (h : Sheet) (reads : reading bytes ≡ Ok h) (others : List ℕ) (k : Sheet) (reads' : reading others ≡ Ok k) →
     (tidied (instance bytes) ≡ tidied (instance others)) ↔ Agree h bytes k others
 equal bytes h reads others k reads' =
     let agree = agree_iff bytes h reads others k reads' in

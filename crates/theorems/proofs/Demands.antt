@@ -35,9 +35,8 @@ use Rattle.sheet.specs.Records.{pair_record}
 use Rattle.sheet.specs.Refusals.{refusal, number_of, first_applying, giving, first_of, in_order}
 use Rattle.sheet.specs.declared.Sheet.{Sheet}
 use Rattle.sheet.specs.declared.Pair.{Pair}
-use Rattle.sheet.specs.declared.PairRecord.TheVariants as pairs
 use Rattle.sheet.specs.declared.Refusal.{Refusal}
-use Rattle.sheet.specs.declared.Reading.TheVariants as readings
+use Rattle.std.specs.Prelude.{Ok, Err, Some}
 use Rattle.sheet.proofs.Promises.{well_formed, said}
 use Rattle.sheet.proofs.Order.{given_first, reading_first, reading_order}
 use Rattle.subsets.specs.Order.{NotAfter}
@@ -52,10 +51,8 @@ use Rattle.embedding.specs.Splits.{keeps, placeable, weighed}
 use Rattle.embedding.proofs.Theorems as rule
 use Rattle.embedding.proofs.Theorems.{plan_iff_mapping, framed_edge, cheapest_mapping, empty_placeable}
 use Rattle.checker.specs.Check as check
-use Rattle.checker.specs.Check.{checked}
+use Rattle.checker.specs.Check.{Checked, checked}
 use Rattle.checker.specs.Answers as checks
-use Rattle.checker.specs.declared.Checked.{Checked}
-use Rattle.checker.specs.declared.Checked.TheVariants as answers
 use Rattle.checker.proofs.Answers.{accepted_iff, right_group, cost_low, check_number, check_first, check_order}
 use Rattle.lending.specs.Spans.{whole, runs_past, Apart}
 use Rattle.lending.specs.Rules.{lender_rules}
@@ -63,11 +60,9 @@ use Rattle.lending.specs.declared.Span.{Span}
 use Rattle.lending.proofs.Rules.{either_past, enough_iff, whole_rules}
 use Rattle.lending.proofs.Spans as spans
 use Rattle.planner.specs.Answers as plan
-use Rattle.planner.specs.Answers.{Enough, planned}
+use Rattle.planner.specs.Answers.{Planned, plan_of, unplanned, Enough, planned}
 use Rattle.planner.specs.Lent.{front_after, table_after, OutputAfter}
 use Rattle.planner.specs.Kept.{kept_costs, kept_choices}
-use Rattle.planner.specs.declared.Planned.{Planned}
-use Rattle.planner.specs.declared.Planned.TheVariants.{Plan, Refused}
 use Rattle.planner.proofs.Order.{plan_first, plan_order}
 use Rattle.edit.specs.Calls.{Call, called, asked}
 use Rattle.edit.specs.Changed.{Beside}
@@ -82,18 +77,14 @@ use Rattle.edit.proofs.Roads.{same_alone, lists_possible}
 use Rattle.bill.specs.Tariff.{within_limits}
 use Rattle.bill.specs.Lines.{started, tax_on, line_count, line, net, tax, total}
 use Rattle.bill.specs.Answers as bill
-use Rattle.bill.specs.Answers.{billed, lines_after}
+use Rattle.bill.specs.Answers.{billed, lines_after, bill_of, Billed}
 use Rattle.bill.specs.declared.tariff.Tariff.{Tariff}
-use Rattle.bill.specs.declared.Billed.{Billed}
-use Rattle.bill.specs.declared.Billed.TheVariants as bills
 use Rattle.bill.proofs.Figures.{started_covers, started_least, tax_high, tax_low}
 use Rattle.bill.proofs.Answers.{made_iff, bill_first, bill_order}
 use Rattle.tidy.specs.Copy.{length_with, tidied}
 use Rattle.tidy.specs.Answers as tidy
 use Rattle.tidy.specs.Answers.{tidy_answer, output_after}
 use Rattle.tidy.specs.Agree.{Agree}
-use Rattle.tidy.specs.declared.Written as copies
-use Rattle.tidy.specs.declared.Written.TheVariants as sheets
 use Rattle.tidy.proofs.Answers.{tidy_first, tidy_order, room_iff, copy_longest}
 use Rattle.theorems.proofs.Billing as billing
 use Rattle.theorems.proofs.Copying as copying
@@ -111,8 +102,8 @@ use Rattle.theorems.specs.Promised.{Given, Maps, NoneCheaper, Best, SameCost, Le
 -- (`planner::plan`, clause `answer`.)
 pub demand_1 :
     (bytes : List ℕ) (output costs choices : ℕ) (span : Span) →
-    ((k : ℕ) × (n : ℕ) × (planned bytes output costs choices span ≡ Plan k n))
-    ⊎ ((f : Refusal) × (n : ℕ) × (planned bytes output costs choices span ≡ Refused f n) × Given plan.plan_numbers f × ((number_of f ≡ 12 → ⊥) → n ≡ 0))
+    ((k : ℕ) × (n : ℕ) × (planned bytes output costs choices span ≡ plan_of k n))
+    ⊎ ((f : Refusal) × (n : ℕ) × (planned bytes output costs choices span ≡ unplanned f n) × Given plan.plan_numbers f × ((number_of f ≡ 12 → ⊥) → n ≡ 0))
 demand_1 = planning.answered
 
 -- After a plan and after 12 the first s × 2^r entries of the span are 0 in both tables and all others stay; after any other refusal both tables are as
@@ -131,15 +122,15 @@ demand_1_memory = planning.left
 -- (`checker::check`.)
 pub demand_1_check :
     (bytes plan : List ℕ) →
-    ((k : ℕ) × (checked bytes plan ≡ answers.Accepted k) × (k < 10 ^ 15))
-    ⊎ ((f : Refusal) × (checked bytes plan ≡ answers.Refused f) × Given check.check_numbers f)
+    ((k : ℕ) × (checked bytes plan ≡ Ok k) × (k < 10 ^ 15))
+    ⊎ ((f : Refusal) × (checked bytes plan ≡ Err f) × Given check.check_numbers f)
 demand_1_check bytes plan = go (checked bytes plan) refl
   where
     go : (r : Checked) → checked bytes plan ≡ r →
-        ((k : ℕ) × (checked bytes plan ≡ answers.Accepted k) × (k < 10 ^ 15))
-        ⊎ ((f : Refusal) × (checked bytes plan ≡ answers.Refused f) × Given check.check_numbers f)
-    go (answers.Accepted k) e = inl (k, e, cost_low bytes plan k e)
-    go (answers.Refused f) e = inr (f, e, record { grouped = right_group bytes plan f e; listed = check_number bytes plan f e })
+        ((k : ℕ) × (checked bytes plan ≡ Ok k) × (k < 10 ^ 15))
+        ⊎ ((f : Refusal) × (checked bytes plan ≡ Err f) × Given check.check_numbers f)
+    go (Ok k) e = inl (k, e, cost_low bytes plan k e)
+    go (Err f) e = inr (f, e, record { grouped = right_group bytes plan f e; listed = check_number bytes plan f e })
 
 -- ---- The order of giving
 
@@ -170,9 +161,9 @@ plan_gives bytes output costs choices span =
 -- On every sheet that the reader accepts, the check accepts a plan of any length at cost k exactly when it has a place for each service and,
 -- with some paths, is a mapping that is feasible by Definition 1, keeps the limits, and costs k. (`checker::check`.)
 pub demand_2 :
-    (bytes : List ℕ) (h : Sheet) → reading bytes ≡ readings.Accepted h →
+    (bytes : List ℕ) (h : Sheet) → reading bytes ≡ Ok h →
     (plan : List ℕ) (k : ℕ) →
-    (checked bytes plan ≡ answers.Accepted k) ↔ ((length plan ≡ (instance bytes).r) × Maps (instance bytes) (place plan) k)
+    (checked bytes plan ≡ Ok k) ↔ ((length plan ≡ (instance bytes).r) × Maps (instance bytes) (place plan) k)
 demand_2 bytes h reads plan k =
     let accepted = accepted_iff bytes h reads plan k in
     let mapping = plan_iff_mapping (instance bytes) (well_formed bytes h reads) (place plan) k in
@@ -181,9 +172,9 @@ demand_2 bytes h reads plan k =
 -- Every plan that the planner writes is accepted by the check, at the planner's cost. (`planner::plan`, clauses `answer` and `output`.)
 pub written_accepted :
     (bytes output output' : List ℕ) (costs choices : ℕ) (span : Span) (k n : ℕ) →
-    planned bytes (length output) costs choices span ≡ Plan k n →
-    OutputAfter (instance bytes) (Plan k n) output output' →
-    checked bytes (take (instance bytes).r output') ≡ answers.Accepted k
+    planned bytes (length output) costs choices span ≡ plan_of k n →
+    OutputAfter (instance bytes) (plan_of k n) output output' →
+    checked bytes (take (instance bytes).r output') ≡ Ok k
 written_accepted = planning.accepted
 
 -- ---- Demand 3
@@ -192,7 +183,7 @@ written_accepted = planning.accepted
 -- 12. With a plan of cost k some mapping that is feasible by Definition 1 and keeps the limits costs k, and no such mapping costs less; with 12 there is no
 -- such mapping. In both cases the count is that of the splits weighed, and is at most (s - 1) × 3^r. (`planner::plan`, clause `answer`.)
 pub demand_3 :
-    (bytes : List ℕ) (h : Sheet) → reading bytes ≡ readings.Accepted h →
+    (bytes : List ℕ) (h : Sheet) → reading bytes ≡ Ok h →
     (output costs choices : ℕ) (span : Span) → Enough (instance bytes) output costs choices span →
     Best (instance bytes) (planned bytes output costs choices span) × (weighed (instance bytes) ≤ ((instance bytes).s - 1) * 3 ^ (instance bytes).r)
 demand_3 bytes h reads output costs choices span enough =
@@ -200,7 +191,7 @@ demand_3 bytes h reads output costs choices span enough =
 
 -- So a plan is given exactly when some mapping is feasible and keeps the limits.
 pub plan_exactly_when :
-    (bytes : List ℕ) (h : Sheet) → reading bytes ≡ readings.Accepted h →
+    (bytes : List ℕ) (h : Sheet) → reading bytes ≡ Ok h →
     (output costs choices : ℕ) (span : Span) → Enough (instance bytes) output costs choices span →
     (plan.number (planned bytes output costs choices span) ≡ 0)
     ↔ ((π : ℕ → ℕ) × (ρ : ℕ → List ℕ) × Feasible (road (instance bytes)) π ρ × Limits (instance bytes) π ρ)
@@ -210,8 +201,8 @@ plan_exactly_when bytes h reads output costs choices span enough = planning.exac
 -- limits and costs what is answered, and no mapping costs less. (`planner::plan`, clauses `answer` and `output`.)
 pub plan_written :
     (bytes output output' : List ℕ) (costs choices : ℕ) (span : Span) (k n : ℕ) →
-    planned bytes (length output) costs choices span ≡ Plan k n →
-    OutputAfter (instance bytes) (Plan k n) output output' →
+    planned bytes (length output) costs choices span ≡ plan_of k n →
+    OutputAfter (instance bytes) (plan_of k n) output output' →
     Maps (instance bytes) (place (take (instance bytes).r output')) k × NoneCheaper (instance bytes) k
 plan_written bytes output output' costs choices span k n e o =
     let p = planning.written bytes output output' costs choices span k n e o in
@@ -228,8 +219,8 @@ plan_written bytes output output' costs choices span k n e o =
 -- and `output`.)
 pub first_of_the_cheapest :
     (bytes output output' : List ℕ) (costs choices : ℕ) (span : Span) (k n : ℕ) →
-    planned bytes (length output) costs choices span ≡ Plan k n →
-    OutputAfter (instance bytes) (Plan k n) output output' →
+    planned bytes (length output) costs choices span ≡ plan_of k n →
+    OutputAfter (instance bytes) (plan_of k n) output output' →
     (take (instance bytes).r output' ≡ places (instance bytes).r (first_plan (instance bytes)))
     × Maps (instance bytes) (place (take (instance bytes).r output')) k
     × ((π : ℕ → ℕ) (ρ : ℕ → List ℕ) → Feasible (road (instance bytes)) π ρ → Limits (instance bytes) π ρ → cost (road (instance bytes)) π ρ ≡ k →
@@ -246,7 +237,7 @@ first_of_the_cheapest bytes output output' costs choices span k n e o = (
 -- (`tidy::tidy`, clause `answer`.)
 pub tidy_answers :
     (bytes : List ℕ) (output : ℕ) →
-    ((n : ℕ) × (tidy_answer bytes output ≡ sheets.Bytes n)) ⊎ ((f : Refusal) × (tidy_answer bytes output ≡ sheets.Refused f) × Given tidy.tidy_numbers f)
+    ((n : ℕ) × (tidy_answer bytes output ≡ Ok n)) ⊎ ((f : Refusal) × (tidy_answer bytes output ≡ Err f) × Given tidy.tidy_numbers f)
 tidy_answers = copying.either
 
 -- Its rules stand in the order of giving, 21 last, and the number given is the first in that order of which a rule applies.
@@ -260,7 +251,7 @@ tidy_gives bytes output =
 -- With a length the copy of the sheet's instance stands at the front of the output, and is that long; all behind it stays. After a refusal all
 -- of the output stays. (`tidy::tidy`, clauses `answer` and `output`.)
 pub tidy_memory :
-    (bytes output output' : List ℕ) (a : copies.Written) →
+    (bytes output output' : List ℕ) (a : tidy.Written) →
     a ≡ tidy_answer bytes (length output) →
     output' ≡ output_after (tidied (instance bytes)) a output →
     SheetLeft (tidied (instance bytes)) a output output'
@@ -269,7 +260,7 @@ tidy_memory = copying.left
 -- On every sheet that the reader accepts 21 is given exactly when the output is shorter than the copy; no copy is longer than one with as many
 -- records of each kind as a sheet may have.
 pub tidy_room :
-    (bytes : List ℕ) (h : Sheet) → reading bytes ≡ readings.Accepted h →
+    (bytes : List ℕ) (h : Sheet) → reading bytes ≡ Ok h →
     ((output : ℕ) → (tidy.number (tidy_answer bytes output) ≡ 21) ↔ (output < length (tidied (instance bytes))))
     × (length (tidied (instance bytes)) ≤ length_with max_services max_cabinets max_streams max_pairs)
 tidy_room bytes h reads = (room_iff bytes h reads, copy_longest (instance bytes) (well_formed bytes h reads))
@@ -277,31 +268,31 @@ tidy_room bytes h reads = (room_iff bytes h reads, copy_longest (instance bytes)
 -- The instance of every sheet that the reader accepts is well formed and has nothing in it but the sheet's records; and for every such instance
 -- the copy is made of bytes, is accepted and says the same instance. The theorems below follow from these two.
 pub instance_said :
-    (bytes : List ℕ) (h : Sheet) → reading bytes ≡ readings.Accepted h → WellFormed (instance bytes) × Said (instance bytes)
+    (bytes : List ℕ) (h : Sheet) → reading bytes ≡ Ok h → WellFormed (instance bytes) × Said (instance bytes)
 instance_said bytes h reads = (well_formed bytes h reads, said bytes h reads)
 
 pub copy_says_the_same :
     (I : Instance) → WellFormed I → Said I →
-    ((k : Sheet) × (reading (tidied I) ≡ readings.Accepted k)) × (instance (tidied I) ≡ I) × ((n : ℕ) → get_or (tidied I) n 0 < 256)
+    ((k : Sheet) × (reading (tidied I) ≡ Ok k)) × (instance (tidied I) ≡ I) × ((n : ℕ) → get_or (tidied I) n 0 < 256)
 copy_says_the_same = copying.says_the_same
 
 -- In the copy each barred pair comes before the next: its service is lower, or the same and its cabinet lower. So none stands twice.
 pub copy_pairs_rise :
-    (I : Instance) → WellFormed I → Said I → (k : Sheet) → reading (tidied I) ≡ readings.Accepted k →
-    (n : ℕ) (p q : Pair) → pair_record k (tidied I) n ≡ pairs.Given p → pair_record k (tidied I) (n + 1) ≡ pairs.Given q →
+    (I : Instance) → WellFormed I → Said I → (k : Sheet) → reading (tidied I) ≡ Ok k →
+    (n : ℕ) (p q : Pair) → pair_record k (tidied I) n ≡ Some p → pair_record k (tidied I) (n + 1) ≡ Some q →
     (p.service < q.service) ⊎ ((p.service ≡ q.service) × (p.cabinet < q.cabinet))
 copy_pairs_rise = copying.rises
 
 -- Two accepted sheets have equal copies exactly when their records agree, barred pairs compared as a set.
 pub equal_copies :
-    (bytes : List ℕ) (h : Sheet) → reading bytes ≡ readings.Accepted h →
-    (others : List ℕ) (k : Sheet) → reading others ≡ readings.Accepted k →
+    (bytes : List ℕ) (h : Sheet) → reading bytes ≡ Ok h →
+    (others : List ℕ) (k : Sheet) → reading others ≡ Ok k →
     (tidied (instance bytes) ≡ tidied (instance others)) ↔ Agree h bytes k others
 equal_copies = copying.equal
 
 -- Tidying a tidy copy changes no byte, and answers the same length.
 pub tidy_twice :
-    (bytes : List ℕ) (h : Sheet) → reading bytes ≡ readings.Accepted h →
+    (bytes : List ℕ) (h : Sheet) → reading bytes ≡ Ok h →
     (tidied (instance (tidied (instance bytes))) ≡ tidied (instance bytes))
     × ((output : ℕ) → tidy_answer (tidied (instance bytes)) output ≡ tidy_answer bytes output)
 tidy_twice bytes h reads = (ap tidied (copying.same bytes h reads).1, copying.same_tidied bytes h reads)
@@ -309,7 +300,7 @@ tidy_twice bytes h reads = (ap tidied (copying.same bytes h reads).1, copying.sa
 -- Sheet and copy have the same cheapest cost, or both no plan; and so, with any memory, the same answer of the planner, and for any plan that of
 -- the check.
 pub copy_plans_alike :
-    (bytes : List ℕ) (h : Sheet) → reading bytes ≡ readings.Accepted h →
+    (bytes : List ℕ) (h : Sheet) → reading bytes ≡ Ok h →
     (cheapest (instance (tidied (instance bytes))) ≡ cheapest (instance bytes))
     × ((output costs choices : ℕ) (span : Span) → planned (tidied (instance bytes)) output costs choices span ≡ planned bytes output costs choices span)
     × ((plan : List ℕ) → checked (tidied (instance bytes)) plan ≡ checked bytes plan)
@@ -321,7 +312,7 @@ copy_plans_alike bytes h reads =
 -- The load by which check, planner and the sets that can be placed test a link direction, for any plan or placing: the demand of the streams whose
 -- path has it, and 2 more for each of them whose demand is above 0. What is priced is the demand alone, by `cost` of Definition 1.
 pub framing_counted :
-    (bytes : List ℕ) (h : Sheet) → reading bytes ≡ readings.Accepted h →
+    (bytes : List ℕ) (h : Sheet) → reading bytes ≡ Ok h →
     (π : ℕ → ℕ) (e : ℕ) →
     carried (instance bytes) π e
     ≡ sum_below (instance bytes).q (λ j. only (member e (routes (instance bytes) π j)) ((instance bytes).load j))
@@ -333,16 +324,16 @@ framing_counted bytes h reads = framed_edge (instance bytes) (well_formed bytes 
 -- A cabinet of capacity 0 is a joint. On every sheet that the reader accepts, a plan that has a place for each service, each a cabinet of the road from
 -- which it is not barred, and has a service on a joint, whatever its demand, gets 15. (`checker::check`.)
 pub joint_refused :
-    (bytes : List ℕ) (h : Sheet) → reading bytes ≡ readings.Accepted h →
+    (bytes : List ℕ) (h : Sheet) → reading bytes ≡ Ok h →
     (written : List ℕ) → length written ≡ (instance bytes).r →
     in_range (instance bytes) (place written) ≡ true → bars_keep (instance bytes) (place written) ≡ true →
     (i : ℕ) → i < (instance bytes).r → (instance bytes).capacity (place written i) ≡ 0 →
-    checked bytes written ≡ answers.Refused (refusal 15)
+    checked bytes written ≡ Err (refusal 15)
 joint_refused = joints.refused
 
 -- So no plan that is accepted, and by `written_accepted` none that is written, has a service on a joint. (`checker::check`.)
 pub accepted_off_joints :
-    (bytes written : List ℕ) (k : ℕ) → checked bytes written ≡ answers.Accepted k →
+    (bytes written : List ℕ) (k : ℕ) → checked bytes written ≡ Ok k →
     (i : ℕ) → i < (instance bytes).r → 0 < (instance bytes).capacity (place written i)
 accepted_off_joints = joints.accepted
 
@@ -353,7 +344,7 @@ pub placed_off_joints :
 placed_off_joints = joints.placed
 
 pub empty_set_placed :
-    (bytes : List ℕ) (h : Sheet) → reading bytes ≡ readings.Accepted h → (c : ℕ) → placeable (instance bytes) c 0 ≡ true
+    (bytes : List ℕ) (h : Sheet) → reading bytes ≡ Ok h → (c : ℕ) → placeable (instance bytes) c 0 ≡ true
 empty_set_placed bytes h reads = empty_placeable (instance bytes) (well_formed bytes h reads)
 
 -- ---- The carrier's bill
@@ -362,8 +353,8 @@ empty_set_placed bytes h reads = empty_placeable (instance bytes) (well_formed b
 -- the group of its number. (`bill::bill`, clause `answer`.)
 pub bill_answers :
     (bytes plan : List ℕ) (t : Tariff) (lines : ℕ) →
-    ((m : ℕ) × (x : ℕ) × (k : ℕ) × (billed bytes plan t lines ≡ bills.Bill m x k))
-    ⊎ ((f : Refusal) × (billed bytes plan t lines ≡ bills.Refused f) × Given bill.bill_numbers f)
+    ((m : ℕ) × (x : ℕ) × (k : ℕ) × (billed bytes plan t lines ≡ bill_of m x k))
+    ⊎ ((f : Refusal) × (billed bytes plan t lines ≡ Err f) × Given bill.bill_numbers f)
 bill_answers = billing.either
 
 -- Its rules stand in the order of giving, 22 last, and the number given is the first in that order of which a rule applies.
@@ -379,8 +370,8 @@ bill_gives bytes plan t lines =
 -- they are those of the definitions.
 pub bill_exactly_when :
     (bytes plan : List ℕ) (t : Tariff) (lines : ℕ) (m x k : ℕ) →
-    (billed bytes plan t lines ≡ bills.Bill m x k)
-    ↔ (((c : ℕ) × (checked bytes plan ≡ answers.Accepted c))
+    (billed bytes plan t lines ≡ bill_of m x k)
+    ↔ (((c : ℕ) × (checked bytes plan ≡ Ok c))
     × (within_limits t ≡ true)
     × (line_count (instance bytes) ≤ lines)
     × (m ≡ net (instance bytes) (place plan) t)
@@ -390,7 +381,7 @@ bill_exactly_when = made_iff
 
 -- There are 2 × (s - 1) + r lines, and no bill has more than that of a sheet with as many cabinets and services as there may be.
 pub bill_room :
-    (bytes : List ℕ) (h : Sheet) → reading bytes ≡ readings.Accepted h →
+    (bytes : List ℕ) (h : Sheet) → reading bytes ≡ Ok h →
     (line_count (instance bytes) ≡ 2 * ((instance bytes).s - 1) + (instance bytes).r)
     × (line_count (instance bytes) ≤ 2 * (max_cabinets - 1) + max_services)
 bill_room = billing.room
@@ -425,8 +416,8 @@ bill_rounds = (λ load. (started_covers load, started_least load), λ m rate. (t
 -- `lines`.)
 pub bill_sums :
     (bytes plan lines lines' : List ℕ) (t : Tariff) (m x k : ℕ) →
-    billed bytes plan t (length lines) ≡ bills.Bill m x k →
-    lines' ≡ lines_after (instance bytes) (place plan) t (bills.Bill m x k) lines →
+    billed bytes plan t (length lines) ≡ bill_of m x k →
+    lines' ≡ lines_after (instance bytes) (place plan) t (bill_of m x k) lines →
     (sum_below (line_count (instance bytes)) (λ n. get_or lines' n 0) ≡ m) × (x ≡ tax_on m t.tax_rate) × (k ≡ m + x)
 bill_sums = billing.sums
 
@@ -434,7 +425,7 @@ bill_sums = billing.sums
 -- is added to round it.
 pub bill_fits :
     (bytes plan : List ℕ) (t : Tariff) (lines m x k : ℕ) →
-    billed bytes plan t lines ≡ bills.Bill m x k →
+    billed bytes plan t lines ≡ bill_of m x k →
     ((n : ℕ) → n < line_count (instance bytes) → line (instance bytes) (place plan) t n ≤ m)
     × (m < 2 ^ 31)
     × (m * t.tax_rate + 500 < 2 ^ 64)
@@ -443,7 +434,7 @@ bill_fits = billing.low
 
 -- A sheet and its tidy copy get the same bills.
 pub copy_bills_alike :
-    (bytes : List ℕ) (h : Sheet) → reading bytes ≡ readings.Accepted h →
+    (bytes : List ℕ) (h : Sheet) → reading bytes ≡ Ok h →
     (plan : List ℕ) (t : Tariff) (lines : ℕ) → billed (tidied (instance bytes)) plan t lines ≡ billed bytes plan t lines
 copy_bills_alike = billing.same_billed
 
@@ -487,8 +478,8 @@ edit_possible = some_outcome
 -- group of its number, and only 12 has a count. (`edit::edit`.)
 pub edit_answers :
     (d : Call) → Edits d →
-    ((k : ℕ) × (n : ℕ) × (d.answer ≡ Plan k n))
-    ⊎ ((f : Refusal) × (n : ℕ) × (d.answer ≡ Refused f n) × Given edit_numbers f × ((number_of f ≡ 12 → ⊥) → n ≡ 0))
+    ((k : ℕ) × (n : ℕ) × (d.answer ≡ plan_of k n))
+    ⊎ ((f : Refusal) × (n : ℕ) × (d.answer ≡ unplanned f n) × Given edit_numbers f × ((number_of f ≡ 12 → ⊥) → n ≡ 0))
 edit_answers = editing.answered
 
 -- The rules tried beforehand stand in the order of giving, 14 last, and where one of them applies the number given is the first in that order of which
@@ -504,8 +495,8 @@ edit_gives = editing.gives
 -- feasible by Definition 1, keeps the limits, and costs that. (`edit::edit`.)
 pub edit_plan_accepted :
     (d : Call) → Edits d →
-    (k n : ℕ) → d.answer ≡ Plan k n →
-    (checked d.sheet (take (asked d).r d.output') ≡ answers.Accepted k) × Maps (asked d) (place (take (asked d).r d.output')) k
+    (k n : ℕ) → d.answer ≡ plan_of k n →
+    (checked d.sheet (take (asked d).r d.output') ≡ Ok k) × Maps (asked d) (place (take (asked d).r d.output')) k
 edit_plan_accepted = editing.plan_accepted
 
 -- ---- Two roads, a single pair of tables
@@ -574,8 +565,8 @@ roads_possible = lists_possible
 -- Where the second of two accepted sheets is the first rehung and renumbered, the planner, with memory enough for each, whatever it held, gives 12 for both
 -- or a plan of the same cost for both. Each count is that of its own road, and they may differ. (`planner::plan`, clause `answer`.)
 pub rehung_answers :
-    (bytes : List ℕ) (h : Sheet) → reading bytes ≡ readings.Accepted h →
-    (others : List ℕ) (k : Sheet) → reading others ≡ readings.Accepted k →
+    (bytes : List ℕ) (h : Sheet) → reading bytes ≡ Ok h →
+    (others : List ℕ) (k : Sheet) → reading others ≡ Ok k →
     (σ : ℕ → ℕ) → Rehung (instance bytes) (instance others) σ →
     (output costs choices : ℕ) (span : Span) → Enough (instance bytes) output costs choices span →
     (output' costs' choices' : ℕ) (span' : Span) → Enough (instance others) output' costs' choices' span' →
@@ -584,16 +575,16 @@ rehung_answers = surveys.same_cost
 
 -- This is so since every mapping that is feasible by Definition 1 and keeps the limits goes over, with each service where its cabinet went, at the same cost.
 pub rehung_mapping :
-    (bytes : List ℕ) (h : Sheet) → reading bytes ≡ readings.Accepted h →
-    (others : List ℕ) (k : Sheet) → reading others ≡ readings.Accepted k →
+    (bytes : List ℕ) (h : Sheet) → reading bytes ≡ Ok h →
+    (others : List ℕ) (k : Sheet) → reading others ≡ Ok k →
     (σ : ℕ → ℕ) → Rehung (instance bytes) (instance others) σ →
     (π : ℕ → ℕ) (n : ℕ) → Maps (instance bytes) π n → Maps (instance others) (λ i. σ (π i)) n
 rehung_mapping = surveys.mapping_over
 
 -- And back, for the first is the second rehung, by numbers that undo the others.
 pub rehung_back :
-    (bytes : List ℕ) (h : Sheet) → reading bytes ≡ readings.Accepted h →
-    (others : List ℕ) (k : Sheet) → reading others ≡ readings.Accepted k →
+    (bytes : List ℕ) (h : Sheet) → reading bytes ≡ Ok h →
+    (others : List ℕ) (k : Sheet) → reading others ≡ Ok k →
     (σ : ℕ → ℕ) → Rehung (instance bytes) (instance others) σ →
     (τ : ℕ → ℕ) × Rehung (instance others) (instance bytes) τ × ((c : ℕ) → c < (instance bytes).s → τ (σ c) ≡ c)
 rehung_back bytes h reads others k reads' = rule.rehung_back (instance bytes) (instance others) (well_formed bytes h reads) (well_formed others k reads')
@@ -601,8 +592,8 @@ rehung_back bytes h reads others k reads' = rule.rehung_back (instance bytes) (i
 -- A link connects two cabinets of the first exactly when it connects them in the second. So neither has a link that the other has not, though `Rehung` asks
 -- that of the first one's links alone.
 pub rehung_links :
-    (bytes : List ℕ) (h : Sheet) → reading bytes ≡ readings.Accepted h →
-    (others : List ℕ) (k : Sheet) → reading others ≡ readings.Accepted k →
+    (bytes : List ℕ) (h : Sheet) → reading bytes ≡ Ok h →
+    (others : List ℕ) (k : Sheet) → reading others ≡ Ok k →
     (σ : ℕ → ℕ) → Rehung (instance bytes) (instance others) σ →
     (l : Link) (a b : ℕ) → a < (instance bytes).s → b < (instance bytes).s → Connects (instance bytes) l a b ↔ Connects (instance others) l (σ a) (σ b)
 rehung_links bytes h reads others k reads' = rule.rehung_links (instance bytes) (instance others) (well_formed bytes h reads) (well_formed others k reads')
@@ -613,17 +604,17 @@ pub rehung_itself : (bytes : List ℕ) → Rehung (instance bytes) (instance byt
 rehung_itself bytes = rule.rehung_itself (instance bytes)
 
 pub rehung_on :
-    (bytes : List ℕ) (h : Sheet) → reading bytes ≡ readings.Accepted h →
+    (bytes : List ℕ) (h : Sheet) → reading bytes ≡ Ok h →
     (others thirds : List ℕ) (σ τ : ℕ → ℕ) → Rehung (instance bytes) (instance others) σ → Rehung (instance others) (instance thirds) τ →
     Rehung (instance bytes) (instance thirds) (λ c. τ (σ c))
 rehung_on bytes h reads others thirds = rule.rehung_on (instance bytes) (instance others) (instance thirds) (well_formed bytes h reads)
 
 -- A plan that the check accepts for the first, written with the new numbers, it accepts for the second at the same cost. (`checker::check`.)
 pub rehung_checked :
-    (bytes : List ℕ) (h : Sheet) → reading bytes ≡ readings.Accepted h →
-    (others : List ℕ) (k : Sheet) → reading others ≡ readings.Accepted k →
+    (bytes : List ℕ) (h : Sheet) → reading bytes ≡ Ok h →
+    (others : List ℕ) (k : Sheet) → reading others ≡ Ok k →
     (σ : ℕ → ℕ) → Rehung (instance bytes) (instance others) σ →
-    (plan : List ℕ) (n : ℕ) → checked bytes plan ≡ answers.Accepted n → checked others (map σ plan) ≡ answers.Accepted n
+    (plan : List ℕ) (n : ℕ) → checked bytes plan ≡ Ok n → checked others (map σ plan) ≡ Ok n
 rehung_checked = surveys.plan_over
 
 -- That joints are carried along, which `Rehung` names too, follows from what it says of the capacities.

@@ -5,6 +5,7 @@ use mathlib.Core.Logic.{◌⊎◌, inl, inr}
 use mathlib.Core.Path.{◌≡◌, refl, sym, ap, ◌∙◌, subst}
 use mathlib.Core.Bool.{true}
 use lib.ListN.{length, take}
+use Rattle.std.specs.Prelude.{Ok, Err}
 use Rattle.sheet.specs.Refusals.{one_of, refusal, number_of, giving, first_of, in_order}
 use Rattle.sheet.specs.declared.Refusal.{Refusal}
 use Rattle.sheet.proofs.Groups.{number_refusal, own_group}
@@ -13,11 +14,8 @@ use Rattle.sheet.proofs.Promises.{well_formed}
 use Rattle.embedding.specs.Plan.{place}
 use Rattle.embedding.proofs.Theorems.{plan_iff_mapping}
 use Rattle.checker.specs.Check.{checked}
-use Rattle.checker.specs.declared.Checked.TheVariants as checks
 use Rattle.checker.proofs.Answers.{accepted_iff}
-use Rattle.planner.specs.Answers.{number}
-use Rattle.planner.specs.declared.Planned.{Planned}
-use Rattle.planner.specs.declared.Planned.TheVariants.{Plan, Refused}
+use Rattle.planner.specs.Answers.{Planned, plan_of, unplanned, number}
 use Rattle.edit.specs.Calls.{Call, asked}
 use Rattle.edit.specs.Edits.{rules_before, edit_numbers, number_before, Outcome, Edits}
 use Rattle.edit.proofs.Before.{before_edits, before_order}
@@ -27,8 +25,8 @@ use Rattle.theorems.specs.Promised.{Given, Maps}
 -- a plan, or one of an edit's refusals in its own group, with a count only where it is 12
 abbrev pub Answered : Planned → Type 0
 Answered a =
-    ((k : ℕ) × (n : ℕ) × (a ≡ Plan k n))
-    ⊎ ((f : Refusal) × (n : ℕ) × (a ≡ Refused f n) × Given edit_numbers f × ((number_of f ≡ 12 → ⊥) → n ≡ 0))
+    ((k : ℕ) × (n : ℕ) × (a ≡ plan_of k n))
+    ⊎ ((f : Refusal) × (n : ℕ) × (a ≡ unplanned f n) × Given edit_numbers f × ((number_of f ≡ 12 → ⊥) → n ≡ 0))
 
 -- one of an edit's refusals in its own group
 given : (f : Refusal) (n : ℕ) → f ≡ refusal n → one_of edit_numbers n ≡ true → Given edit_numbers f
@@ -37,9 +35,9 @@ given f n e l = record { grouped = own_group f n e; listed = ap (one_of edit_num
 module _ (d : Call) (E : Edits d) where
   -- what comes of any tables
   of_outcome : (a : Planned) → d.answer ≡ a → Outcome d a → Answered a
-  of_outcome (Plan k n) p o = inl (k, n, refl)
-  of_outcome (Refused f n) p (inl e, o) = inr (f, n, refl, given f 12 e refl, λ h. absurd (h (ap number_of e ∙ number_refusal 12)))
-  of_outcome (Refused f n) p (inr (e, c), o) = inr (f, n, refl, given f 23 e refl, λ h. c)
+  of_outcome (Ok p) q o = inl (p.cost, p.count, refl)
+  of_outcome (Err u) q (inl e, o) = inr (u.refusal, u.count, refl, given u.refusal 12 e refl, λ h. absurd (h (ap number_of e ∙ number_refusal 12)))
+  of_outcome (Err u) q (inr (e, c), o) = inr (u.refusal, u.count, refl, given u.refusal 23 e refl, λ h. c)
 
   -- Every call.
   pub answered : Answered d.answer
@@ -72,7 +70,7 @@ module _ (d : Call) (E : Edits d) where
       go (suc n) q h = (refusing d E n q).number_is ∙ sym q
 
   -- nothing refuses an edit that gives a plan
-  plan_passes : (k n : ℕ) → d.answer ≡ Plan k n → number_before d ≡ 0
+  plan_passes : (k n : ℕ) → d.answer ≡ plan_of k n → number_before d ≡ 0
   plan_passes k n p = go (number_before d) refl
     where
       go : (m : ℕ) → number_before d ≡ m → number_before d ≡ 0
@@ -81,8 +79,8 @@ module _ (d : Call) (E : Edits d) where
 
   -- a plan is accepted by the check at the cost answered, and so is a feasible mapping of that cost
   pub plan_accepted :
-      (k n : ℕ) → d.answer ≡ Plan k n →
-      (checked d.sheet (take (asked d).r d.output') ≡ checks.Accepted k) × Maps (asked d) (place (take (asked d).r d.output')) k
+      (k n : ℕ) → d.answer ≡ plan_of k n →
+      (checked d.sheet (take (asked d).r d.output') ≡ Ok k) × Maps (asked d) (place (take (asked d).r d.output')) k
   plan_accepted k n p =
       let q = plan_passes k n p in
       let P = edit_passed d q in

@@ -13,14 +13,13 @@ use Rattle.sheet.specs.Refusals.{refusal}
 use Rattle.sheet.specs.Reading.{reading}
 use Rattle.sheet.specs.Instance.{Instance, instance}
 use Rattle.sheet.specs.declared.Sheet.{Sheet}
-use Rattle.sheet.specs.declared.Reading.TheVariants as readings
+use Rattle.std.specs.Prelude.{Ok, Err}
 use Rattle.sheet.proofs.Promises.{joints_by_capacity}
 use Rattle.embedding.specs.Plan.{place, in_range, bars_keep, rooms_keep, joints_keep, cabinets_keep}
 use Rattle.embedding.specs.Splits.{keeps}
 use Rattle.embedding.proofs.Mappings.{Beyond, range_test, joints_test, valid_test}
 use Rattle.embedding.proofs.Joints.{placed_off}
 use Rattle.checker.specs.Check.{checked}
-use Rattle.checker.specs.declared.Checked.TheVariants.{Accepted, Refused}
 use Rattle.checker.proofs.Answers.{accepted_iff, accepted_reads, gets_15}
 
 -- a plan with a service on a joint does not pass the test of the cabinets
@@ -44,15 +43,15 @@ module _ (bytes : List ℕ) where
       omega (arith, z)
 
   -- a plan with a service on a cabinet of capacity 0
-  pub refused : (h : Sheet) → reading bytes ≡ readings.Accepted h →
+  pub refused : (h : Sheet) → reading bytes ≡ Ok h →
       (written : List ℕ) → length written ≡ I.r → in_range I (place written) ≡ true → bars_keep I (place written) ≡ true →
-      (i : ℕ) → i < I.r → I.capacity (place written i) ≡ 0 → checked bytes written ≡ Refused (refusal 15)
+      (i : ℕ) → i < I.r → I.capacity (place written i) ≡ 0 → checked bytes written ≡ Err (refusal 15)
   refused h reads written places range bars i k e =
       let on = is_joint (place written i) ((range_test I (place written)).0 range i k) e in
       gets_15 bytes h reads written places range bars (on_joint I (place written) i k on)
 
   -- a plan that is accepted
-  pub accepted : (written : List ℕ) (n : ℕ) → checked bytes written ≡ Accepted n → (i : ℕ) → i < I.r → 0 < I.capacity (place written i)
+  pub accepted : (written : List ℕ) (n : ℕ) → checked bytes written ≡ Ok n → (i : ℕ) → i < I.r → 0 < I.capacity (place written i)
   unfolding Beyond
   accepted written n e i k =
       let r = accepted_reads bytes written n e in

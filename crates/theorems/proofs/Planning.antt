@@ -18,8 +18,8 @@ use Rattle.sheet.specs.Refusals.{Rule, one_of, first_applying, refusal, number_o
 use Rattle.sheet.specs.Reading.{reader_numbers, reading}
 use Rattle.sheet.specs.declared.Sheet.{Sheet}
 use Rattle.sheet.specs.declared.Refusal.{Refusal}
-use Rattle.sheet.specs.declared.Reading.{Reading}
-use Rattle.sheet.specs.declared.Reading.TheVariants as readings
+use Rattle.sheet.specs.Reading.{Reading}
+use Rattle.std.specs.Prelude.{Ok, Err}
 use Rattle.sheet.proofs.Groups.{number_refusal, own_group, reading_group, one_of_left, listed, first_listed, reading_number}
 use Rattle.sheet.proofs.Promises.{well_formed}
 use Rattle.embedding.specs.Definition1.{Feasible, cost}
@@ -32,18 +32,15 @@ use Rattle.embedding.proofs.Services.{worth_ext}
 use Rattle.embedding.proofs.First.{places_length, places_at, first_valid}
 use Rattle.embedding.proofs.Theorems.{cheapest_mapping, cheapest_none, first_mapping}
 use Rattle.checker.specs.Check.{checked}
-use Rattle.checker.specs.declared.Checked.TheVariants as checks
 use Rattle.checker.proofs.Answers.{accepted_iff}
 use Rattle.planner.specs.Answers as plans
 use Rattle.lending.specs.Rules.{lender_rules}
 use Rattle.lending.specs.declared.Span.{Span}
 use Rattle.lending.proofs.Rules.{enough_iff}
 use Rattle.lending.proofs.Spans.{replaced_front}
-use Rattle.planner.specs.Answers.{number, entries, Enough, plan_numbers, solved, lent, planned}
+use Rattle.planner.specs.Answers.{Planned, plan_of, unplanned, number, entries, Enough, plan_numbers, solved, lent, planned}
 use Rattle.planner.specs.Lent.{used, front_after, table_after, OutputAfter}
 use Rattle.planner.specs.Kept.{kept_costs, kept_choices}
-use Rattle.planner.specs.declared.Planned.{Planned}
-use Rattle.planner.specs.declared.Planned.TheVariants.{Plan, Refused}
 use Rattle.planner.proofs.Solved.{accepted_solved, used_solved}
 use Rattle.planner.proofs.After.{after_used, after_unused, after_length, after_others}
 use Rattle.edit.proofs.Tables.{kept_after}
@@ -57,7 +54,7 @@ given : (n : ℕ) → one_of plan_numbers n ≡ true → Given plan_numbers (ref
 given n l = record { grouped = own_group (refusal n) n refl; listed = ap (one_of plan_numbers) (number_refusal n) ∙ l }
 
 -- the reader's refusals are the planner's
-reader_given : (bytes : List ℕ) (f : Refusal) → reading bytes ≡ readings.Refused f → Given plan_numbers f
+reader_given : (bytes : List ℕ) (f : Refusal) → reading bytes ≡ Err f → Given plan_numbers f
 reader_given bytes f e =
     record {
       grouped = reading_group bytes f e;
@@ -69,8 +66,8 @@ reader_given bytes f e =
 -- a plan, or one of the planner's refusals in its own group, with a count only where it is 12
 abbrev pub Answered : Planned → Type 0
 Answered a =
-    ((k : ℕ) × (n : ℕ) × (a ≡ Plan k n))
-    ⊎ ((f : Refusal) × (n : ℕ) × (a ≡ Refused f n) × Given plan_numbers f × ((number_of f ≡ 12 → ⊥) → n ≡ 0))
+    ((k : ℕ) × (n : ℕ) × (a ≡ plan_of k n))
+    ⊎ ((f : Refusal) × (n : ℕ) × (a ≡ unplanned f n) × Given plan_numbers f × ((number_of f ≡ 12 → ⊥) → n ≡ 0))
 
 solved_answered : (c : Cost) (n : ℕ) → Answered (solved c n)
 solved_answered none n =
@@ -86,21 +83,21 @@ unfolding planned
 answered bytes output costs choices span = go (reading bytes) refl
   where
     go : (r : Reading) → reading bytes ≡ r → Answered (plans.answered r (instance bytes) output costs choices span)
-    go (readings.Refused f) e = inr (f, 0, refl, reader_given bytes f e, λ h. refl)
-    go (readings.Accepted h) e =
+    go (Err f) e = inr (f, 0, refl, reader_given bytes f e, λ h. refl)
+    go (Ok h) e =
         let rules : List Rule = lender_rules (instance bytes).r (entries (instance bytes)) output costs choices span in
         lent_answered (instance bytes) rules refl (first_applying rules) refl
 
 -- ---- a plan or 12
 
 -- the cheapest cost is the one answered
-pub plan_cheapest : (bytes : List ℕ) (output costs choices : ℕ) (span : Span) (k n : ℕ) → planned bytes output costs choices span ≡ Plan k n →
-    (h : Sheet) × (reading bytes ≡ readings.Accepted h) × Enough (instance bytes) output costs choices span × (cheapest (instance bytes) ≡ some k)
+pub plan_cheapest : (bytes : List ℕ) (output costs choices : ℕ) (span : Span) (k n : ℕ) → planned bytes output costs choices span ≡ plan_of k n →
+    (h : Sheet) × (reading bytes ≡ Ok h) × Enough (instance bytes) output costs choices span × (cheapest (instance bytes) ≡ some k)
 plan_cheapest bytes output costs choices span k n e =
     let s = used_solved bytes output costs choices span (ap used e) in
     (s.sheet, s.reads, s.enough, go (cheapest (instance bytes)) (sym (accepted_solved bytes output costs choices span s) ∙ e))
   where
-    go : (f : Cost) → solved f (weighed (instance bytes)) ≡ Plan k n → f ≡ some k
+    go : (f : Cost) → solved f (weighed (instance bytes)) ≡ plan_of k n → f ≡ some k
     go none q = absurd (let z : ◌≡◌ {A = ℕ} 0 1 = cc in omega arith)
     go (some m) q = ap some (ap plans.cost q)
 
@@ -119,7 +116,7 @@ module _ (I : Instance) (W : WellFormed I) where
   weighed_le = triples_le I.r I.s (placeable I)
 
 pub best_answer :
-    (bytes : List ℕ) (h : Sheet) → reading bytes ≡ readings.Accepted h →
+    (bytes : List ℕ) (h : Sheet) → reading bytes ≡ Ok h →
     (output costs choices : ℕ) (span : Span) → Enough (instance bytes) output costs choices span → Best (instance bytes) (planned bytes output costs choices span)
 best_answer bytes h reads output costs choices span enough =
     subst (Best (instance bytes)) (sym (accepted_solved bytes output costs choices span record { sheet = h; reads = reads; enough = enough }))
@@ -135,20 +132,20 @@ exactly I a (inr (e, empty)) =
 -- ---- the plan written
 
 -- what stands in the first r places of the output is the first of the cheapest plans
-pub first_places : (I : Instance) (k n : ℕ) (output output' : List ℕ) → OutputAfter I (Plan k n) output output' → take I.r output' ≡ places I.r (first_plan I)
+pub first_places : (I : Instance) (k n : ℕ) (output output' : List ℕ) → OutputAfter I (plan_of k n) output output' → take I.r output' ≡ places I.r (first_plan I)
 first_places I k n output output' o =
     ap (take I.r) o ∙ take_at (places I.r (first_plan I)) (drop I.r output) I.r (places_length I.r (first_plan I))
 
 -- and so it is its plan, service by service
-pub first_written : (I : Instance) (k n : ℕ) (output output' : List ℕ) → OutputAfter I (Plan k n) output output' → (i : ℕ) → i < I.r → place (take I.r output') i ≡ first_plan I i
+pub first_written : (I : Instance) (k n : ℕ) (output output' : List ℕ) → OutputAfter I (plan_of k n) output output' → (i : ℕ) → i < I.r → place (take I.r output') i ≡ first_plan I i
 first_written I k n output output' o i l = ap (λ (list : List ℕ). get_or list i 0) (first_places I k n output output' o) ∙ places_at I.r (first_plan I) i l
 
 -- it is a valid plan at the cost answered
 pub written :
     (bytes output output' : List ℕ) (costs choices : ℕ) (span : Span) (k n : ℕ) →
-    planned bytes (length output) costs choices span ≡ Plan k n →
-    OutputAfter (instance bytes) (Plan k n) output output' →
-    (h : Sheet) × (reading bytes ≡ readings.Accepted h)
+    planned bytes (length output) costs choices span ≡ plan_of k n →
+    OutputAfter (instance bytes) (plan_of k n) output output' →
+    (h : Sheet) × (reading bytes ≡ Ok h)
     × (length (take (instance bytes).r output') ≡ (instance bytes).r)
     × (valid (instance bytes) (place (take (instance bytes).r output')) ≡ true)
     × (plan_cost (instance bytes) (place (take (instance bytes).r output')) ≡ k)
@@ -166,9 +163,9 @@ written bytes output output' costs choices span k n e o =
 -- the check accepts it at that cost
 pub accepted :
     (bytes output output' : List ℕ) (costs choices : ℕ) (span : Span) (k n : ℕ) →
-    planned bytes (length output) costs choices span ≡ Plan k n →
-    OutputAfter (instance bytes) (Plan k n) output output' →
-    checked bytes (take (instance bytes).r output') ≡ checks.Accepted k
+    planned bytes (length output) costs choices span ≡ plan_of k n →
+    OutputAfter (instance bytes) (plan_of k n) output output' →
+    checked bytes (take (instance bytes).r output') ≡ Ok k
 accepted bytes output output' costs choices span k n e o =
     let p = written bytes output output' costs choices span k n e o in
     (accepted_iff bytes p.0 p.1 (take (instance bytes).r output') k).1 (p.2, p.3, p.4)
@@ -176,8 +173,8 @@ accepted bytes output output' costs choices span k n e o =
 -- no mapping of that cost comes before it
 pub none_before :
     (bytes output output' : List ℕ) (costs choices : ℕ) (span : Span) (k n : ℕ) →
-    planned bytes (length output) costs choices span ≡ Plan k n →
-    OutputAfter (instance bytes) (Plan k n) output output' →
+    planned bytes (length output) costs choices span ≡ plan_of k n →
+    OutputAfter (instance bytes) (plan_of k n) output output' →
     (π : ℕ → ℕ) (ρ : ℕ → List ℕ) → Feasible (road (instance bytes)) π ρ → Limits (instance bytes) π ρ → cost (road (instance bytes)) π ρ ≡ k →
     NotAfter (instance bytes).r (place (take (instance bytes).r output')) π
 none_before bytes output output' costs choices span k n e o π ρ feasible limits same =
@@ -191,7 +188,7 @@ none_before bytes output output' costs choices span k n e o π ρ feasible limit
 -- ---- the memory lent
 
 -- the output with a plan in it
-output_written : (I : Instance) (k n : ℕ) (output output' : List ℕ) → I.r ≤ length output → OutputAfter I (Plan k n) output output' → Written I.r output output'
+output_written : (I : Instance) (k n : ℕ) (output output' : List ℕ) → I.r ≤ length output → OutputAfter I (plan_of k n) output output' → Written I.r output output'
 output_written I k n output output' h o =
     front_written I.r (places I.r (first_plan I)) output output' (places_length I.r (first_plan I)) h o
 
@@ -213,10 +210,10 @@ module _ (bytes output costs choices output' : List ℕ) (span : Span) (a : Plan
   room_of_choices h = let n = room h in (n.2, n.3)
 
   module _ (o : OutputAfter I a output output') where
-    planned_output : (k n : ℕ) → a ≡ Plan k n → Written I.r output output'
+    planned_output : (k n : ℕ) → a ≡ plan_of k n → Written I.r output output'
     planned_output k n p = output_written I k n output output' (room (ap used p)).0 (subst (λ (b : Planned). OutputAfter I b output output') p o)
 
-    refused_output : (f : Refusal) (n : ℕ) → a ≡ Refused f n → output' ≡ output
+    refused_output : (f : Refusal) (n : ℕ) → a ≡ unplanned f n → output' ≡ output
     refused_output f n p = subst (λ (b : Planned). OutputAfter I b output output') p o
 
 -- one table after a call that leaves these entries in front of the span

@@ -13,7 +13,7 @@ use Rattle.subsets.proofs.Provided.{provided_some}
 use Rattle.sheet.specs.Instance.{Instance, instance}
 use Rattle.sheet.specs.Reading.{reading}
 use Rattle.sheet.specs.declared.Sheet.{Sheet}
-use Rattle.sheet.specs.declared.Reading.TheVariants as readings
+use Rattle.std.specs.Prelude.{Ok}
 use Rattle.sheet.proofs.Promises.{well_formed, joints_by_capacity}
 use Rattle.embedding.specs.Plan.{place, valid, plan_cost, worth, cheapest}
 use Rattle.embedding.specs.Rehung.{Rehung}
@@ -21,7 +21,6 @@ use Rattle.embedding.specs.Splits.{weighed}
 use Rattle.embedding.proofs.Services.{worth_ext}
 use Rattle.embedding.proofs.Theorems.{plan_iff_mapping, rehung_mapping, rehung_cheapest}
 use Rattle.checker.specs.Check.{checked}
-use Rattle.checker.specs.declared.Checked.TheVariants.{Accepted}
 use Rattle.checker.proofs.Answers.{accepted_iff}
 use Rattle.lending.specs.declared.Span.{Span}
 use Rattle.planner.specs.Answers.{Enough, solved, planned}
@@ -39,8 +38,8 @@ place_over σ [] i k = absurd (omega arith)
 place_over σ (c ∷ plan) zero k = refl
 place_over σ (c ∷ plan) (suc i) k = place_over σ plan i (omega arith)
 
-module _ (bytes : List ℕ) (h : Sheet) (reads : reading bytes ≡ readings.Accepted h)
-    (others : List ℕ) (h' : Sheet) (reads' : reading others ≡ readings.Accepted h')
+module _ (bytes : List ℕ) (h : Sheet) (reads : reading bytes ≡ Ok h)
+    (others : List ℕ) (h' : Sheet) (reads' : reading others ≡ Ok h')
     (σ : ℕ → ℕ) (R : Rehung (instance bytes) (instance others) σ) where
   abbrev I : Instance
   I = instance bytes
@@ -65,7 +64,7 @@ module _ (bytes : List ℕ) (h : Sheet) (reads : reading bytes ≡ readings.Acce
       rw (e, e' ∙ ap (λ (f : Cost). solved f (weighed J)) (sym same)) (alike I J (cheapest I))
 
   -- a plan that is accepted on the one, carried over, is accepted on the other
-  pub plan_over : (plan : List ℕ) (k : ℕ) → checked bytes plan ≡ Accepted k → checked others (map σ plan) ≡ Accepted k
+  pub plan_over : (plan : List ℕ) (k : ℕ) → checked bytes plan ≡ Ok k → checked others (map σ plan) ≡ Ok k
   unfolding worth
   plan_over plan k e =
       let W = well_formed bytes h reads in

@@ -1,5 +1,5 @@
 -- The worked cases that are proved, 01's "Measured roads" and those of 02: for each call on the bytes of a sheet, the answer expected.
-use Rattle.std.specs.Prelude.{ℕ, ◌+◌, ◌-◌, ◌*◌, ◌/◌, ◌^◌, Bool, true, ◌&&◌, ◌≡◌, List, [], ◌∷◌, ◌++◌, eqb, length}
+use Rattle.std.specs.Prelude.{ℕ, ◌+◌, ◌-◌, ◌*◌, ◌/◌, ◌^◌, Bool, true, ◌&&◌, ◌≡◌, List, [], ◌∷◌, ◌++◌, eqb, length, Ok, Err}
 use Rattle.finite.specs.Below.{◌⇒◌, all_below}
 use Rattle.subsets.specs.Figures.{limit}
 use Rattle.sheet.specs.Refusals.{refusal}
@@ -8,26 +8,19 @@ use Rattle.sheet.specs.Instance.{Instance, instance}
 use Rattle.embedding.specs.Plan.{place, digit, valid, plan_cost}
 use Rattle.embedding.specs.First.{first_plan, places}
 use Rattle.embedding.specs.Rehung.{Rehung}
-use Rattle.checker.specs.Check.{checked}
-use Rattle.checker.specs.declared.Checked.{Checked}
-use Rattle.checker.specs.declared.Checked.TheVariants.{Accepted, Refused}
+use Rattle.checker.specs.Check.{Checked, checked}
 use Rattle.bill.specs.Lines.{line_count, line}
-use Rattle.bill.specs.Answers.{billed}
+use Rattle.bill.specs.Answers.{billed, bill_of, Billed}
 use Rattle.bill.specs.declared.tariff.Tariff.{Tariff}
-use Rattle.bill.specs.declared.Billed.{Billed}
-use Rattle.bill.specs.declared.Billed.TheVariants as bill
 use Rattle.lending.specs.Spans.{span_of}
 use Rattle.lending.specs.declared.Span.{Span}
 use Rattle.planner.specs.Answers as planner
-use Rattle.planner.specs.Answers.{entries, planned}
+use Rattle.planner.specs.Answers.{Planned, plan_of, unplanned, entries, planned}
 use Rattle.planner.specs.Lent.{used}
 use Rattle.planner.specs.Kept.{kept_costs, kept_choices}
-use Rattle.planner.specs.declared.Planned.{Planned}
-use Rattle.planner.specs.declared.Planned.TheVariants as plans
 use Rattle.tidy.specs.Words.{from_words}
 use Rattle.tidy.specs.Copy.{tidied}
 use Rattle.tidy.specs.Answers.{tidy_answer}
-use Rattle.tidy.specs.declared.Written.TheVariants.{Bytes}
 
 -- a call, what it is given, and what it is to answer
 pub data Case : Type 0 where
@@ -72,7 +65,7 @@ Holds (check bytes written answer) = checked bytes written ≡ answer
 Holds (plan bytes answer) = answer_to bytes ≡ answer
 Holds (puts bytes k i c) = all_put (instance bytes) k i c ≡ true
 Holds (writes bytes written) = (planner.number (answer_to bytes) ≡ 0) × (places (instance bytes).r (first_plan (instance bytes)) ≡ written)
-Holds (tidies bytes copy) = (tidy_answer bytes (length copy) ≡ Bytes (length copy)) × (tidied (instance bytes) ≡ copy)
+Holds (tidies bytes copy) = (tidy_answer bytes (length copy) ≡ Ok (length copy)) × (tidied (instance bytes) ≡ copy)
 Holds (bills bytes written t n answer) = billed bytes written t n ≡ answer
 Holds (lines bytes written t expected) = places (line_count (instance bytes)) (line (instance bytes) (place written) t) ≡ expected
 Holds (keeps bytes costs choices) = (used (answer_to bytes) ≡ true) × (kept_costs (instance bytes) ≡ costs) × (kept_choices (instance bytes) ≡ choices)
@@ -250,37 +243,37 @@ lone = from_words (0 ∷ 1 ∷ 0 ∷ 16 ∷ 16 ∷ 30 ∷ 30 ∷ 0 ∷ 65535 ∷
 -- the table
 abbrev pub cases : List Case
 cases =
-    check road_m (0 ∷ 1 ∷ []) (Accepted 15)
-    ∷ check road_m (1 ∷ 2 ∷ []) (Accepted 15)
-    ∷ check road_m (1 ∷ 0 ∷ []) (Accepted 18)
-    ∷ check road_m (0 ∷ 0 ∷ []) (Accepted 20)
-    ∷ check road_m (1 ∷ 1 ∷ []) (Refused (refusal 15))
-    ∷ check road_m (2 ∷ 0 ∷ []) (Refused (refusal 16))
-    ∷ check road_m (3 ∷ 0 ∷ []) (Refused (refusal 14))
-    ∷ plan road_m (plans.Plan 15 18)
+    check road_m (0 ∷ 1 ∷ []) (Ok 15)
+    ∷ check road_m (1 ∷ 2 ∷ []) (Ok 15)
+    ∷ check road_m (1 ∷ 0 ∷ []) (Ok 18)
+    ∷ check road_m (0 ∷ 0 ∷ []) (Ok 20)
+    ∷ check road_m (1 ∷ 1 ∷ []) (Err (refusal 15))
+    ∷ check road_m (2 ∷ 0 ∷ []) (Err (refusal 16))
+    ∷ check road_m (3 ∷ 0 ∷ []) (Err (refusal 14))
+    ∷ plan road_m (plan_of 15 18)
     ∷ writes road_m (0 ∷ 1 ∷ [])
-    ∷ plan (road 3 6) (plans.Plan 15 17)
-    ∷ plan (road 0 6) (plans.Plan 15 12)
+    ∷ plan (road 3 6) (plan_of 15 17)
+    ∷ plan (road 0 6) (plan_of 15 12)
     ∷ writes (road 0 6) (1 ∷ 2 ∷ [])
-    ∷ plan (road 0 5) (plans.Plan 15 12)
-    ∷ plan (road 0 4) (plans.Refused (refusal 12) 10)
-    ∷ plan road_z (plans.Plan 15 28)
+    ∷ plan (road 0 5) (plan_of 15 12)
+    ∷ plan (road 0 4) (unplanned (refusal 12) 10)
+    ∷ plan road_z (plan_of 15 28)
     ∷ puts road_z 15 2 1
     ∷ writes road_z (1 ∷ 2 ∷ 1 ∷ [])
-    ∷ plan one_child (plans.Plan 3 3)
-    ∷ check m_barred (0 ∷ 1 ∷ []) (Refused (refusal 20))
-    ∷ check m_barred (1 ∷ 2 ∷ []) (Accepted 15)
-    ∷ plan m_barred (plans.Plan 15 15)
+    ∷ plan one_child (plan_of 3 3)
+    ∷ check m_barred (0 ∷ 1 ∷ []) (Err (refusal 20))
+    ∷ check m_barred (1 ∷ 2 ∷ []) (Ok 15)
+    ∷ plan m_barred (plan_of 15 15)
     ∷ puts m_barred 15 0 1
     ∷ puts m_barred 15 1 2
     ∷ writes m_barred (1 ∷ 2 ∷ [])
-    ∷ plan m_nowhere (plans.Refused (refusal 12) 12)
+    ∷ plan m_nowhere (unplanned (refusal 12) 12)
     -- framing on the way up: two streams of one pair; one of them the other way; a stream of demand 0
-    ∷ check (m_carrying 7 (0 ∷ 1 ∷ 1 ∷ 0 ∷ 1 ∷ 2 ∷ [])) (1 ∷ 0 ∷ []) (Accepted 18)
-    ∷ check (m_carrying 6 (0 ∷ 1 ∷ 1 ∷ 0 ∷ 1 ∷ 2 ∷ [])) (1 ∷ 0 ∷ []) (Refused (refusal 16))
-    ∷ check (m_carrying 3 (0 ∷ 1 ∷ 1 ∷ 1 ∷ 0 ∷ 2 ∷ [])) (1 ∷ 0 ∷ []) (Accepted 16)
-    ∷ check (m_carrying 2 (0 ∷ 1 ∷ 1 ∷ 1 ∷ 0 ∷ 2 ∷ [])) (1 ∷ 0 ∷ []) (Refused (refusal 16))
-    ∷ check (m_carrying 0 (0 ∷ 1 ∷ 0 ∷ [])) (1 ∷ 0 ∷ []) (Accepted 12)
+    ∷ check (m_carrying 7 (0 ∷ 1 ∷ 1 ∷ 0 ∷ 1 ∷ 2 ∷ [])) (1 ∷ 0 ∷ []) (Ok 18)
+    ∷ check (m_carrying 6 (0 ∷ 1 ∷ 1 ∷ 0 ∷ 1 ∷ 2 ∷ [])) (1 ∷ 0 ∷ []) (Err (refusal 16))
+    ∷ check (m_carrying 3 (0 ∷ 1 ∷ 1 ∷ 1 ∷ 0 ∷ 2 ∷ [])) (1 ∷ 0 ∷ []) (Ok 16)
+    ∷ check (m_carrying 2 (0 ∷ 1 ∷ 1 ∷ 1 ∷ 0 ∷ 2 ∷ [])) (1 ∷ 0 ∷ []) (Err (refusal 16))
+    ∷ check (m_carrying 0 (0 ∷ 1 ∷ 0 ∷ [])) (1 ∷ 0 ∷ []) (Ok 12)
     -- a block of no pairs; one pair, also twice, and after a gap
     ∷ read (m_with 68 (0 ∷ [])) 0
     ∷ read (m_with 68 (1 ∷ 1 ∷ 2 ∷ [])) 0
@@ -315,58 +308,58 @@ cases =
     ∷ tidies both_ways both_ways
     ∷ tidies lone_odd lone
     -- bills of M: a tax that ends in a half; all at the limits; a stream of 98 and one of 99, whose framing takes them to one block and past it
-    ∷ bills road_m (0 ∷ 1 ∷ []) (tariff 250 30 50) 6 (bill.Bill 370 19 389)
+    ∷ bills road_m (0 ∷ 1 ∷ []) (tariff 250 30 50) 6 (bill_of 370 19 389)
     ∷ lines road_m (0 ∷ 1 ∷ []) (tariff 250 30 50) (0 ∷ 250 ∷ 0 ∷ 0 ∷ 60 ∷ 60 ∷ [])
-    ∷ bills road_m (1 ∷ 2 ∷ []) (tariff 10000 10000 1000) 9 (bill.Bill 60000 60000 120000)
+    ∷ bills road_m (1 ∷ 2 ∷ []) (tariff 10000 10000 1000) 9 (bill_of 60000 60000 120000)
     ∷ lines road_m (1 ∷ 2 ∷ []) (tariff 10000 10000 1000) (10000 ∷ 0 ∷ 0 ∷ 10000 ∷ 20000 ∷ 20000 ∷ [])
-    ∷ bills (m_carrying 100 (0 ∷ 1 ∷ 98 ∷ [])) (1 ∷ 0 ∷ []) (tariff 7 0 500) 6 (bill.Bill 7 4 11)
+    ∷ bills (m_carrying 100 (0 ∷ 1 ∷ 98 ∷ [])) (1 ∷ 0 ∷ []) (tariff 7 0 500) 6 (bill_of 7 4 11)
     ∷ lines (m_carrying 101 (0 ∷ 1 ∷ 99 ∷ [])) (1 ∷ 0 ∷ []) (tariff 7 0 500) (14 ∷ 0 ∷ 0 ∷ 0 ∷ 0 ∷ 0 ∷ [])
     -- each part of a tariff above its limit; a line too few; the check's refusal, and the reader's, before that
-    ∷ bills road_m (0 ∷ 1 ∷ []) (tariff 10001 0 0) 6 (bill.Refused (refusal 22))
-    ∷ bills road_m (0 ∷ 1 ∷ []) (tariff 0 10001 0) 6 (bill.Refused (refusal 22))
-    ∷ bills road_m (0 ∷ 1 ∷ []) (tariff 0 0 1001) 6 (bill.Refused (refusal 22))
-    ∷ bills road_m (0 ∷ 1 ∷ []) (tariff 250 30 50) 5 (bill.Refused (refusal 22))
-    ∷ bills road_m (2 ∷ 0 ∷ []) (tariff 10001 0 0) 0 (bill.Refused (refusal 16))
-    ∷ bills (m_with 68 []) (0 ∷ 1 ∷ []) (tariff 10001 0 0) 0 (bill.Refused (refusal 18))
+    ∷ bills road_m (0 ∷ 1 ∷ []) (tariff 10001 0 0) 6 (Err (refusal 22))
+    ∷ bills road_m (0 ∷ 1 ∷ []) (tariff 0 10001 0) 6 (Err (refusal 22))
+    ∷ bills road_m (0 ∷ 1 ∷ []) (tariff 0 0 1001) 6 (Err (refusal 22))
+    ∷ bills road_m (0 ∷ 1 ∷ []) (tariff 250 30 50) 5 (Err (refusal 22))
+    ∷ bills road_m (2 ∷ 0 ∷ []) (tariff 10001 0 0) 0 (Err (refusal 16))
+    ∷ bills (m_with 68 []) (0 ∷ 1 ∷ []) (tariff 10001 0 0) 0 (Err (refusal 18))
     -- 02 (g): what tables kept of M hold, of M with no room at its root, and of the road without a plan; the counts of the joins sum to 18, 12 and 10
     ∷ keeps road_m (0 ∷ 8 ∷ 5 ∷ 15 ∷ 0 ∷ 2 ∷ 2 ∷ no_way ∷ 0 ∷ 4 ∷ 4 ∷ no_way ∷ []) (0 ∷ 0 ∷ 0 ∷ 0 ∷ 9 ∷ 0 ∷ 0 ∷ 1 ∷ 9 ∷ 1 ∷ 2 ∷ 3 ∷ [])
     ∷ keeps (road 0 6) (0 ∷ 8 ∷ 5 ∷ 15 ∷ 0 ∷ 2 ∷ 2 ∷ no_way ∷ 0 ∷ 4 ∷ 4 ∷ no_way ∷ []) (0 ∷ 0 ∷ 0 ∷ 0 ∷ 4 ∷ 0 ∷ 0 ∷ 0 ∷ 8 ∷ 1 ∷ 2 ∷ 1 ∷ [])
     ∷ keeps (road 0 4) (0 ∷ no_way ∷ 5 ∷ no_way ∷ 0 ∷ 2 ∷ 2 ∷ no_way ∷ 0 ∷ 4 ∷ 4 ∷ no_way ∷ []) (0 ∷ 0 ∷ 0 ∷ 0 ∷ 4 ∷ 0 ∷ 0 ∷ 0 ∷ 6 ∷ 0 ∷ 2 ∷ 0 ∷ [])
     -- 02 (h), on M, which needs 2 places and 12 entries: a span in the middle, one that is longer than needed and ends with both tables, and one that does
     -- so with the shorter
-    ∷ spans road_m 2 30 30 (span_of 5 12) (plans.Plan 15 18)
-    ∷ spans road_m 2 30 30 (span_of 10 20) (plans.Plan 15 18)
-    ∷ spans road_m 2 24 30 (span_of 12 12) (plans.Plan 15 18)
+    ∷ spans road_m 2 30 30 (span_of 5 12) (plan_of 15 18)
+    ∷ spans road_m 2 30 30 (span_of 10 20) (plan_of 15 18)
+    ∷ spans road_m 2 24 30 (span_of 12 12) (plan_of 15 18)
     -- a span that runs past the cost table, and past the choice table; first and number whose sum does not fit 64 bits
-    ∷ spans road_m 2 23 30 (span_of 12 12) (plans.Refused (refusal 24) 0)
-    ∷ spans road_m 2 30 23 (span_of 12 12) (plans.Refused (refusal 24) 0)
-    ∷ spans road_m 2 30 30 (span_of (2 ^ 64 - 1) (2 ^ 64 - 1)) (plans.Refused (refusal 24) 0)
-    ∷ spans road_m 2 30 30 (span_of 1 (2 ^ 64 - 1)) (plans.Refused (refusal 24) 0)
+    ∷ spans road_m 2 23 30 (span_of 12 12) (unplanned (refusal 24) 0)
+    ∷ spans road_m 2 30 23 (span_of 12 12) (unplanned (refusal 24) 0)
+    ∷ spans road_m 2 30 30 (span_of (2 ^ 64 - 1) (2 ^ 64 - 1)) (unplanned (refusal 24) 0)
+    ∷ spans road_m 2 30 30 (span_of 1 (2 ^ 64 - 1)) (unplanned (refusal 24) 0)
     -- no entries at the very end, and one past it; an entry too few; 24 with 11, and 10 with both
-    ∷ spans road_m 2 30 30 (span_of 30 0) (plans.Refused (refusal 11) 0)
-    ∷ spans road_m 2 30 30 (span_of 31 0) (plans.Refused (refusal 24) 0)
-    ∷ spans road_m 2 30 30 (span_of 5 11) (plans.Refused (refusal 11) 0)
-    ∷ spans road_m 2 30 30 (span_of 25 11) (plans.Refused (refusal 24) 0)
-    ∷ spans road_m 1 30 30 (span_of 25 11) (plans.Refused (refusal 10) 0)
+    ∷ spans road_m 2 30 30 (span_of 30 0) (unplanned (refusal 11) 0)
+    ∷ spans road_m 2 30 30 (span_of 31 0) (unplanned (refusal 24) 0)
+    ∷ spans road_m 2 30 30 (span_of 5 11) (unplanned (refusal 11) 0)
+    ∷ spans road_m 2 30 30 (span_of 25 11) (unplanned (refusal 24) 0)
+    ∷ spans road_m 1 30 30 (span_of 25 11) (unplanned (refusal 10) 0)
     -- 02 (i): on Z the root is a joint, so that the service of demand 0 may not stand there; 20 and 14 come before that
-    ∷ check road_z (1 ∷ 2 ∷ 1 ∷ []) (Accepted 15)
-    ∷ check road_z (1 ∷ 2 ∷ 0 ∷ []) (Refused (refusal 15))
-    ∷ check (z_with 76 (1 ∷ 2 ∷ 0 ∷ [])) (1 ∷ 2 ∷ 0 ∷ []) (Refused (refusal 20))
-    ∷ check road_z (1 ∷ 3 ∷ 0 ∷ []) (Refused (refusal 14))
+    ∷ check road_z (1 ∷ 2 ∷ 1 ∷ []) (Ok 15)
+    ∷ check road_z (1 ∷ 2 ∷ 0 ∷ []) (Err (refusal 15))
+    ∷ check (z_with 76 (1 ∷ 2 ∷ 0 ∷ [])) (1 ∷ 2 ∷ 0 ∷ []) (Err (refusal 20))
+    ∷ check road_z (1 ∷ 3 ∷ 0 ∷ []) (Err (refusal 14))
     -- a joint at the end of the chain, with an overfull link too; no joint there, and that link is left; a stream through a joint in the middle
-    ∷ check (chain 1 1 0) (0 ∷ 2 ∷ []) (Refused (refusal 15))
-    ∷ check (chain 1 0 1) (0 ∷ 2 ∷ []) (Refused (refusal 16))
-    ∷ check (chain 1 0 1) (2 ∷ 0 ∷ []) (Accepted 2)
-    ∷ check (chain 1 0 1) (0 ∷ 1 ∷ []) (Refused (refusal 15))
+    ∷ check (chain 1 1 0) (0 ∷ 2 ∷ []) (Err (refusal 15))
+    ∷ check (chain 1 0 1) (0 ∷ 2 ∷ []) (Err (refusal 16))
+    ∷ check (chain 1 0 1) (2 ∷ 0 ∷ []) (Ok 2)
+    ∷ check (chain 1 0 1) (0 ∷ 1 ∷ []) (Err (refusal 15))
     -- plans with joints in the middle, at both other ends, above the end, and everywhere; no service, and joints only
-    ∷ plan (chain 1 0 1) (plans.Plan 0 13)
+    ∷ plan (chain 1 0 1) (plan_of 0 13)
     ∷ writes (chain 1 0 1) (0 ∷ 0 ∷ [])
-    ∷ plan (chain 0 1 0) (plans.Plan 0 13)
+    ∷ plan (chain 0 1 0) (plan_of 0 13)
     ∷ writes (chain 0 1 0) (1 ∷ 1 ∷ [])
-    ∷ plan (chain 0 0 1) (plans.Plan 0 8)
+    ∷ plan (chain 0 0 1) (plan_of 0 8)
     ∷ writes (chain 0 0 1) (2 ∷ 2 ∷ [])
-    ∷ plan (chain 0 0 0) (plans.Refused (refusal 12) 8)
-    ∷ plan two_joints (plans.Plan 0 1)
+    ∷ plan (chain 0 0 0) (unplanned (refusal 12) 8)
+    ∷ plan two_joints (plan_of 0 1)
     -- what tables kept of a chain hold, with a joint in the middle, and of joints only
     ∷ keeps (chain 1 0 1) (0 ∷ 0 ∷ 0 ∷ 0 ∷ 0 ∷ 1 ∷ no_way ∷ 0 ∷ 0 ∷ 0 ∷ 0 ∷ 0 ∷ []) (0 ∷ 0 ∷ 0 ∷ 0 ∷ 9 ∷ 1 ∷ 2 ∷ 3 ∷ 4 ∷ 0 ∷ 0 ∷ 0 ∷ [])
     ∷ keeps (chain 0 0 0) (0 ∷ no_way ∷ no_way ∷ no_way ∷ 0 ∷ no_way ∷ no_way ∷ no_way ∷ 0 ∷ no_way ∷ no_way ∷ no_way ∷ [])
@@ -374,14 +367,14 @@ cases =
     -- 02 (j): M hung from its cabinet 1, also with (0,0) barred, which is (0,1) there; M0 from its cabinet 2, where the joint is in the middle; the other
     -- way round; and a road beside itself. The costs are the same, counts and plans are not
     ∷ rehangs road_m (m_from_1 0 []) (1 ∷ 0 ∷ 2 ∷ [])
-    ∷ plan (m_from_1 0 []) (plans.Plan 15 17)
+    ∷ plan (m_from_1 0 []) (plan_of 15 17)
     ∷ writes (m_from_1 0 []) (0 ∷ 2 ∷ [])
     ∷ rehangs m_barred (m_from_1 68 (1 ∷ 0 ∷ 1 ∷ [])) (1 ∷ 0 ∷ 2 ∷ [])
-    ∷ plan (m_from_1 68 (1 ∷ 0 ∷ 1 ∷ [])) (plans.Plan 15 14)
+    ∷ plan (m_from_1 68 (1 ∷ 0 ∷ 1 ∷ [])) (plan_of 15 14)
     ∷ rehangs (road 0 6) (m0_from_2 6) (1 ∷ 2 ∷ 0 ∷ [])
-    ∷ plan (m0_from_2 6) (plans.Plan 15 12)
+    ∷ plan (m0_from_2 6) (plan_of 15 12)
     ∷ rehangs (road 0 4) (m0_from_2 4) (1 ∷ 2 ∷ 0 ∷ [])
-    ∷ plan (m0_from_2 4) (plans.Refused (refusal 12) 12)
+    ∷ plan (m0_from_2 4) (unplanned (refusal 12) 12)
     ∷ rehangs (m0_from_2 6) (road 0 6) (2 ∷ 0 ∷ 1 ∷ [])
     ∷ rehangs road_m road_m (0 ∷ 1 ∷ 2 ∷ [])
     -- a link that turns over with up and down as they were; barred pairs with the old numbers; prices that stay behind; two cabinets given one number

@@ -1,5 +1,6 @@
 -- The words of the demands: a refusal as it is given, a mapping of least cost, and memory after a call.
-use Rattle.std.specs.Prelude.{ℕ, ◌+◌, ◌≤◌, ◌<◌, ◌⊎◌, ◌≡◌, true, false, List, length, get_or, take, drop, replicate}
+use Rattle.bill.specs.Answers.{bill_of, Billed}
+use Rattle.std.specs.Prelude.{ℕ, ◌+◌, ◌≤◌, ◌<◌, ◌⊎◌, ◌≡◌, true, false, List, length, get_or, take, drop, replicate, Err, Ok}
 use Rattle.sheet.specs.Refusals.{one_of, refusal, number_of}
 use Rattle.sheet.specs.Instance.{Instance}
 use Rattle.sheet.specs.declared.Refusal.{Refusal}
@@ -9,17 +10,12 @@ use Rattle.embedding.specs.Road.{road}
 use Rattle.embedding.specs.Splits.{weighed}
 use Rattle.lending.specs.Spans.{within}
 use Rattle.lending.specs.declared.Span.{Span}
-use Rattle.planner.specs.Answers.{entries}
+use Rattle.planner.specs.Answers.{Planned, plan_of, unplanned, entries}
 use Rattle.planner.specs.Lent.{used}
 use Rattle.planner.specs.Kept.{Kept}
-use Rattle.planner.specs.declared.Planned.{Planned}
-use Rattle.planner.specs.declared.Planned.TheVariants.{Plan, Refused}
 use Rattle.bill.specs.Lines.{line_count, line}
 use Rattle.bill.specs.declared.tariff.Tariff.{Tariff}
-use Rattle.bill.specs.declared.Billed.{Billed}
-use Rattle.bill.specs.declared.Billed.TheVariants as bills
-use Rattle.tidy.specs.declared.Written as tidy
-use Rattle.tidy.specs.declared.Written.TheVariants as sheets
+use Rattle.tidy.specs.Answers as tidy
 
 -- the refusal stands in the group of its number, and the number is one of these
 pub record Given (numbers : List ℕ) (f : Refusal) : Type 0 where
@@ -41,14 +37,14 @@ NoMapping I = (π : ℕ → ℕ) (ρ : ℕ → List ℕ) → Feasible (road I) �
 -- the answer is a plan at the least cost of all mappings, or 12 where there is none; its count is that of the splits weighed
 abbrev pub Best : Instance → Planned → Type 0
 Best I a =
-    ((k : ℕ) × (a ≡ Plan k (weighed I)) × ((π : ℕ → ℕ) × Maps I π k) × NoneCheaper I k)
-    ⊎ ((a ≡ Refused (refusal 12) (weighed I)) × NoMapping I)
+    ((k : ℕ) × (a ≡ plan_of k (weighed I)) × ((π : ℕ → ℕ) × Maps I π k) × NoneCheaper I k)
+    ⊎ ((a ≡ unplanned (refusal 12) (weighed I)) × NoMapping I)
 
 -- two answers of the planner, each with the count of its own road: 12 twice, or plans of one cost
 abbrev pub SameCost : Instance → Instance → Planned → Planned → Type 0
 SameCost I J a b =
-    ((a ≡ Refused (refusal 12) (weighed I)) × (b ≡ Refused (refusal 12) (weighed J)))
-    ⊎ ((k : ℕ) × (a ≡ Plan k (weighed I)) × (b ≡ Plan k (weighed J)))
+    ((a ≡ unplanned (refusal 12) (weighed I)) × (b ≡ unplanned (refusal 12) (weighed J)))
+    ⊎ ((k : ℕ) × (a ≡ plan_of k (weighed I)) × (b ≡ plan_of k (weighed J)))
 
 -- all entries of a table stay but the n from this first one on
 pub record Stays (first n : ℕ) (table table' : List ℕ) : Type 0 where
@@ -76,24 +72,24 @@ pub record Written (n : ℕ) (output output' : List ℕ) : Type 0 where
 pub record Left (I : Instance) (a : Planned) (span : Span) (output costs choices output' costs' choices' : List ℕ) : Type 0 where
   pub cleared : used a ≡ true → Cleared span.first (entries I) costs costs' × Cleared span.first (entries I) choices choices'
   pub untouched : used a ≡ false → (costs' ≡ costs) × (choices' ≡ choices)
-  pub planned : (k n : ℕ) → a ≡ Plan k n → Written I.r output output'
-  pub refused : (f : Refusal) (n : ℕ) → a ≡ Refused f n → output' ≡ output
+  pub planned : (k n : ℕ) → a ≡ plan_of k n → Written I.r output output'
+  pub refused : (f : Refusal) (n : ℕ) → a ≡ unplanned f n → output' ≡ output
 
 -- what a keeping call leaves in the memory lent, by its answer: with a plan and with 12 the entries of the span are kept of the instance
 pub record KeptLeft (I : Instance) (a : Planned) (span : Span) (output costs choices output' costs' choices' : List ℕ) : Type 0 where
   pub kept : used a ≡ true
       → Kept I (within span costs') (within span choices') × Stays span.first (entries I) costs costs' × Stays span.first (entries I) choices choices'
   pub untouched : used a ≡ false → (costs' ≡ costs) × (choices' ≡ choices)
-  pub planned : (k n : ℕ) → a ≡ Plan k n → Written I.r output output'
-  pub refused : (f : Refusal) (n : ℕ) → a ≡ Refused f n → output' ≡ output
+  pub planned : (k n : ℕ) → a ≡ plan_of k n → Written I.r output output'
+  pub refused : (f : Refusal) (n : ℕ) → a ≡ unplanned f n → output' ≡ output
 
 -- what a call that writes a sheet leaves in its output, by its answer: these bytes at the front, and all else as it was
 pub record SheetLeft (sheet : List ℕ) (a : tidy.Written) (output output' : List ℕ) : Type 0 where
-  pub written : (n : ℕ) → a ≡ sheets.Bytes n → (n ≡ length sheet) × (take n output' ≡ sheet) × Written n output output'
-  pub refused : (f : Refusal) → a ≡ sheets.Refused f → output' ≡ output
+  pub written : (n : ℕ) → a ≡ Ok n → (n ≡ length sheet) × (take n output' ≡ sheet) × Written n output output'
+  pub refused : (f : Refusal) → a ≡ Err f → output' ≡ output
 
 -- what a call that makes a bill leaves in the places lent for its lines, by its answer: with a bill place n has line n, and all places behind stay
 pub record LinesLeft (I : Instance) (π : ℕ → ℕ) (t : Tariff) (a : Billed) (lines lines' : List ℕ) : Type 0 where
-  pub billed : (net tax total : ℕ) → a ≡ bills.Bill net tax total →
+  pub billed : (net tax total : ℕ) → a ≡ bill_of net tax total →
       Written (line_count I) lines lines' × ((n : ℕ) → n < line_count I → get_or lines' n 0 ≡ line I π t n)
-  pub refused : (f : Refusal) → a ≡ bills.Refused f → lines' ≡ lines
+  pub refused : (f : Refusal) → a ≡ Err f → lines' ≡ lines

@@ -18,7 +18,7 @@ use Rattle.sheet.specs.Instance.{Instance, WellFormed}
 use Rattle.sheet.specs.Inner.Fields.{cabinet_of, stream_of}
 use Rattle.sheet.specs.declared.Service.{Service}
 use Rattle.sheet.specs.declared.Stream.{Stream}
-use Rattle.sheet.specs.declared.Reading.TheVariants.{Accepted}
+use Rattle.std.specs.Prelude.{Ok}
 use Rattle.tidy.specs.Copy.{copy_length, pair_words, pair_count, tidied}
 use Rattle.tidy.proofs.Barred.{pair_among, pairs_most, pairs_named}
 use Rattle.tidy.proofs.Fourth.{no_offset, some_offset, some_size}
@@ -189,6 +189,6 @@ module _ (I : Instance) (W : WellFormed I) (root_parent : I.parent 0 ≡ 65535) 
       (pass _ _ pairs passed)))))))))))
 
   -- The reader accepts the copy.
-  pub accepted : reading (tidied I) ≡ Accepted (tidy_sheet I)
+  pub accepted : reading (tidied I) ≡ Ok (tidy_sheet I)
   unfolding reading answered
   accepted = ap₂ answered clear (header_read I)

@@ -19,12 +19,8 @@ use Rattle.sheet.specs.declared.Sheet.{Sheet}
 use Rattle.sheet.specs.declared.Service.{Service}
 use Rattle.sheet.specs.declared.Cabinet.{Cabinet}
 use Rattle.sheet.specs.declared.Stream.{Stream}
-use Rattle.sheet.specs.declared.PairRecord.TheVariants as pairs
-use Rattle.sheet.specs.declared.ServiceRecord.TheVariants as services
-use Rattle.sheet.specs.declared.CabinetRecord.TheVariants as cabinets
-use Rattle.sheet.specs.declared.StreamRecord.TheVariants as streams
-use Rattle.sheet.specs.declared.Reading.TheVariants.{Accepted}
-use Rattle.sheet.proofs.Given.{same_service, same_cabinet, same_stream}
+use Rattle.std.specs.Prelude.{Ok, Some, None}
+use Rattle.sheet.proofs.Given.{same_given}
 use Rattle.sheet.proofs.Promises.{counts, padded, joints_by_capacity, service_given, cabinet_given, stream_given, barred_pairs}
 use Rattle.sheet.proofs.Same.{Alike, same_instance, same_joint}
 use Rattle.tidy.specs.Agree.{Named, Agree}
@@ -33,15 +29,15 @@ use Rattle.tidy.specs.Agree.{Named, Agree}
 
 module _ (h : Sheet) (bytes : List ℕ) where
   -- a record that isn't there is missing
-  no_service : (i : ℕ) → h.services ≤ i → service_record h bytes i ≡ services.Missing
+  no_service : (i : ℕ) → h.services ≤ i → service_record h bytes i ≡ None
   unfolding service_record there
   no_service i k = rw (le-ltb i h.services k) refl
 
-  no_cabinet : (c : ℕ) → h.cabinets ≤ c → cabinet_record h bytes c ≡ cabinets.Missing
+  no_cabinet : (c : ℕ) → h.cabinets ≤ c → cabinet_record h bytes c ≡ None
   unfolding cabinet_record there
   no_cabinet c k = rw (le-ltb c h.cabinets k) refl
 
-  no_stream : (j : ℕ) → h.streams ≤ j → stream_record h bytes j ≡ streams.Missing
+  no_stream : (j : ℕ) → h.streams ≤ j → stream_record h bytes j ≡ None
   unfolding stream_record there
   no_stream j k = rw (le-ltb j h.streams k) refl
 
@@ -51,13 +47,13 @@ module _ (h : Sheet) (bytes : List ℕ) where
   pair_below n i c e = go (ltb n h.pairs) refl e
     where
       go : (t : Bool) → ltb n h.pairs ≡ t
-          → bars (cond (t && leb (2 + 4 * n + 4) (length (part_from h.pairs_at bytes))) (pairs.Given (pair h bytes n)) pairs.Missing) i c ≡ true
+          → bars (cond (t && leb (2 + 4 * n + 4) (length (part_from h.pairs_at bytes))) (Some (pair h bytes n)) None) i c ≡ true
           → n < h.pairs
       go true q e = ltb-true n h.pairs q
       go false q e = clash (sym e)
 
   -- a pair is named exactly where it is barred
-  named_iff : reading bytes ≡ Accepted h → (i c : ℕ) → ((instance bytes).barred i c ≡ true) ↔ Named h bytes i c
+  named_iff : reading bytes ≡ Ok h → (i c : ℕ) → ((instance bytes).barred i c ≡ true) ↔ Named h bytes i c
   named_iff reads i c = (
     λ e. let w = any_at h.pairs _ (sym (barred_pairs bytes h reads i c) ∙ e) in (w.0, w.2),
     λ w. barred_pairs bytes h reads i c ∙ any_in h.pairs _ w.0 (pair_below w.0 i c w.1) w.1,
@@ -66,8 +62,8 @@ module _ (h : Sheet) (bytes : List ℕ) where
 -- ---- of two
 
 module _
-    (bytes : List ℕ) (h : Sheet) (reads : reading bytes ≡ Accepted h)
-    (others : List ℕ) (k : Sheet) (reads' : reading others ≡ Accepted k)
+    (bytes : List ℕ) (h : Sheet) (reads : reading bytes ≡ Ok h)
+    (others : List ℕ) (k : Sheet) (reads' : reading others ≡ Ok k)
   where
     abbrev I : Instance
     I = instance bytes
@@ -89,15 +85,15 @@ module _
 
       service_same : (i : ℕ) → i < I.r → service_of I i ≡ service_of J i
       service_same i l =
-          same_service _ _ (sym (service_given bytes h reads i l) ∙ A.service i ∙ service_given others k reads' i (omega (arith, r_same)))
+          same_given _ _ (sym (service_given bytes h reads i l) ∙ A.service i ∙ service_given others k reads' i (omega (arith, r_same)))
 
       cabinet_same : (c : ℕ) → c < I.s → cabinet_of I c ≡ cabinet_of J c
       cabinet_same c l =
-          same_cabinet _ _ (sym (cabinet_given bytes h reads c l) ∙ A.cabinet c ∙ cabinet_given others k reads' c (omega (arith, s_same)))
+          same_given _ _ (sym (cabinet_given bytes h reads c l) ∙ A.cabinet c ∙ cabinet_given others k reads' c (omega (arith, s_same)))
 
       stream_same : (j : ℕ) → j < I.q → stream_of I j ≡ stream_of J j
       stream_same j l =
-          same_stream _ _ (sym (stream_given bytes h reads j l) ∙ A.stream j ∙ stream_given others k reads' j (omega (arith, q_same)))
+          same_given _ _ (sym (stream_given bytes h reads j l) ∙ A.stream j ∙ stream_given others k reads' j (omega (arith, q_same)))
 
       barred_same : (i c : ℕ) → I.barred i c ≡ J.barred i c
       barred_same i c =
@@ -147,7 +143,7 @@ module _
           go true q =
               let l : i < h.services = ltb-true i _ q in
               service_given bytes h reads i (omega (arith, (counts bytes h reads).0))
-              ∙ ap (λ (K : Instance). services.Given (service_of K i)) e
+              ∙ ap (λ (K : Instance). Some (service_of K i)) e
               ∙ sym (service_given others k reads' i (omega (arith, services_agree, (counts others k reads').0)))
           go false q =
               let l : h.services ≤ i = ltb-false i _ q in
@@ -160,7 +156,7 @@ module _
           go true q =
               let l : c < h.cabinets = ltb-true c _ q in
               cabinet_given bytes h reads c (omega (arith, (counts bytes h reads).1))
-              ∙ ap (λ (K : Instance). cabinets.Given (cabinet_of K c)) e
+              ∙ ap (λ (K : Instance). Some (cabinet_of K c)) e
               ∙ sym (cabinet_given others k reads' c (omega (arith, cabinets_agree, (counts others k reads').1)))
           go false q =
               let l : h.cabinets ≤ c = ltb-false c _ q in
@@ -173,7 +169,7 @@ module _
           go true q =
               let l : j < h.streams = ltb-true j _ q in
               stream_given bytes h reads j (omega (arith, (counts bytes h reads).2))
-              ∙ ap (λ (K : Instance). streams.Given (stream_of K j)) e
+              ∙ ap (λ (K : Instance). Some (stream_of K j)) e
               ∙ sym (stream_given others k reads' j (omega (arith, streams_agree, (counts others k reads').2)))
           go false q =
               let l : h.streams ≤ j = ltb-false j _ q in

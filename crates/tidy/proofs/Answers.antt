@@ -15,14 +15,12 @@ use Rattle.sheet.specs.Instance.{Instance, WellFormed, instance}
 use Rattle.sheet.specs.Refusals.{one_of, first_applying, refusal, number_of, giving, in_order}
 use Rattle.sheet.specs.declared.Sheet.{Sheet}
 use Rattle.sheet.specs.declared.Refusal.{Refusal}
-use Rattle.sheet.specs.declared.Reading.{Reading}
-use Rattle.sheet.specs.declared.Reading.TheVariants as readings
+use Rattle.sheet.specs.Reading.{Reading}
 use Rattle.sheet.proofs.Groups.{number_refusal, own_group, reading_group, one_of_left, first_listed, reading_number}
 use Rattle.sheet.proofs.Order.{after_reader}
 use Rattle.tidy.specs.Copy.{length_with, pair_count, copy_length, tidied}
-use Rattle.tidy.specs.Answers.{number, room_rules, all_rules, tidy_numbers, given, written, answered, tidy_answer, output_after}
-use Rattle.tidy.specs.declared.Written.{Written}
-use Rattle.tidy.specs.declared.Written.TheVariants.{Bytes, Refused}
+use Rattle.tidy.specs.Answers.{Written, number, room_rules, all_rules, tidy_numbers, given, written, answered, tidy_answer, output_after}
+use Rattle.std.specs.Prelude.{Ok, Err}
 use Rattle.tidy.proofs.Barred.{pairs_most}
 use Rattle.tidy.proofs.Fourth.{size_most, some_size}
 use Rattle.tidy.proofs.Lengths.{copied_length}
@@ -31,7 +29,7 @@ use Rattle.tidy.proofs.Lengths.{copied_length}
 
 -- a length, or one of the call's refusals in its own group
 abbrev pub Answered : Written → Type 0
-Answered a = ((n : ℕ) × (a ≡ Bytes n)) ⊎ ((f : Refusal) × (a ≡ Refused f) × (f ≡ refusal (number_of f)) × (one_of tidy_numbers (number_of f) ≡ true))
+Answered a = ((n : ℕ) × (a ≡ Ok n)) ⊎ ((f : Refusal) × (a ≡ Err f) × (f ≡ refusal (number_of f)) × (one_of tidy_numbers (number_of f) ≡ true))
 
 room_answered : (size n m : ℕ) → first_applying (room_rules size n) ≡ m → Answered (given m size)
 room_answered size n zero e = inl (size, refl)
@@ -48,8 +46,8 @@ unfolding tidy_answer answered written
 tidy_answered bytes n = go (reading bytes) refl
   where
     go : (r : Reading) → reading bytes ≡ r → Answered (answered r (instance bytes) n)
-    go (readings.Accepted h) e = room_answered (copy_length (instance bytes)) n _ refl
-    go (readings.Refused f) e =
+    go (Ok h) e = room_answered (copy_length (instance bytes)) n _ refl
+    go (Err f) e =
         inr (f, refl, reading_group bytes f e, one_of_left reader.reader_numbers (21 ∷ []) (number_of f) (reading_number bytes f e))
 
 -- ---- the order of giving
@@ -74,7 +72,7 @@ tidy_order bytes n = refl
 -- ---- the room for a copy
 
 -- 21 is given exactly where the output is shorter than the copy
-pub room_iff : (bytes : List ℕ) (h : Sheet) → reading bytes ≡ readings.Accepted h → (n : ℕ) →
+pub room_iff : (bytes : List ℕ) (h : Sheet) → reading bytes ≡ Ok h → (n : ℕ) →
     (number (tidy_answer bytes n) ≡ 21) ↔ (n < length (tidied (instance bytes)))
 unfolding tidy_answer answered written first_applying
 room_iff bytes h reads n = go (ltb n size) refl
@@ -109,29 +107,29 @@ copy_longest I W =
 -- ---- where a copy was written
 
 -- the sheet is accepted, the length is that of the copy, and the output has it
-pub tidy_written : (bytes : List ℕ) (n m : ℕ) → tidy_answer bytes n ≡ Bytes m
-    → ((h : Sheet) × (reading bytes ≡ readings.Accepted h)) × (m ≡ copy_length (instance bytes)) × (m ≤ n)
+pub tidy_written : (bytes : List ℕ) (n m : ℕ) → tidy_answer bytes n ≡ Ok m
+    → ((h : Sheet) × (reading bytes ≡ Ok h)) × (m ≡ copy_length (instance bytes)) × (m ≤ n)
 unfolding tidy_answer answered written first_applying
 tidy_written bytes n m e = go (reading bytes) refl e
   where
     size : ℕ
     size = copy_length (instance bytes)
 
-    room : (t : Bool) → ltb n size ≡ t → written size n ≡ Bytes m → (m ≡ size) × (m ≤ n)
-    room true q e = absurd (let w : Refused (refusal 21) ≡ Bytes m = simp q at e in let z : ◌≡◌ {A = ℕ} 0 1 = cc in omega arith)
+    room : (t : Bool) → ltb n size ≡ t → written size n ≡ Ok m → (m ≡ size) × (m ≤ n)
+    room true q e = absurd (let w : Err (refusal 21) ≡ Ok m = simp q at e in let z : ◌≡◌ {A = ℕ} 0 1 = cc in omega arith)
     room false q e =
-        let w : Bytes size ≡ Bytes m = simp q at e in
+        let w : Ok size ≡ Ok m = simp q at e in
         let s : size ≡ m = cc in
         (sym s, omega (arith, s, ltb-false n size q))
 
-    go : (r : Reading) → reading bytes ≡ r → answered r (instance bytes) n ≡ Bytes m
-        → ((h : Sheet) × (reading bytes ≡ readings.Accepted h)) × (m ≡ copy_length (instance bytes)) × (m ≤ n)
-    go (readings.Accepted h) q e = let w = room (ltb n size) refl e in ((h, q), w.0, w.1)
-    go (readings.Refused f) q e = absurd (let z : ◌≡◌ {A = ℕ} 0 1 = cc in omega arith)
+    go : (r : Reading) → reading bytes ≡ r → answered r (instance bytes) n ≡ Ok m
+        → ((h : Sheet) × (reading bytes ≡ Ok h)) × (m ≡ copy_length (instance bytes)) × (m ≤ n)
+    go (Ok h) q e = let w = room (ltb n size) refl e in ((h, q), w.0, w.1)
+    go (Err f) q e = absurd (let z : ◌≡◌ {A = ℕ} 0 1 = cc in omega arith)
 
 -- the output after it is no shorter
 pub written_fits : (bytes output output' : List ℕ) (a : Written) (m : ℕ) → a ≡ tidy_answer bytes (length output)
-    → output' ≡ output_after (tidied (instance bytes)) a output → a ≡ Bytes m → m ≤ length output'
+    → output' ≡ output_after (tidied (instance bytes)) a output → a ≡ Ok m → m ≤ length output'
 unfolding output_after
 written_fits bytes output output' a m e o q =
     let w = tidy_written bytes (length output) m (sym e ∙ q) in

@@ -4,6 +4,9 @@ mod Put
 mod Barred
 mod Fourth
 pub mod Lengths
+mod Columns
+mod Counts
+mod Putting
 mod Whole
 pub mod Fields
 pub mod Bounds

@@ -15,8 +15,8 @@ use Rattle.sheet.specs.Instance.{Instance, WellFormed}
 use Rattle.sheet.specs.Records.{there, pair_record}
 use Rattle.sheet.specs.declared.Sheet.{Sheet}
 use Rattle.sheet.specs.declared.Pair.{Pair}
-use Rattle.sheet.specs.declared.PairRecord.TheVariants.{Given, Missing}
-use Rattle.sheet.proofs.Given.{same_pair, pair_there}
+use Rattle.std.specs.Prelude.{Some, None}
+use Rattle.sheet.proofs.Given.{same_given, is_given}
 use Rattle.tidy.specs.Words.{concat_below}
 use Rattle.tidy.specs.Copy.{pair_if, service_pairs, pair_words, pair_count, tidied}
 use Rattle.tidy.proofs.Accepted.{in_range}
@@ -105,11 +105,11 @@ module _ (I : Instance) where
 -- ---- in a copy
 
 -- a pair that is given is the one that stands there
-given : (t : Bool) (x y : Pair) → cond t (Given x) Missing ≡ Given y → (t ≡ true) × (y ≡ x)
-given true x y e = (refl, sym (same_pair x y e))
-given false x y e = absurd (pair_there y e)
+given : (t : Bool) (x y : Pair) → cond t (Some x) None ≡ Some y → (t ≡ true) × (y ≡ x)
+given true x y e = (refl, sym (same_given x y e))
+given false x y e = absurd (is_given y e)
 
-pair_is : (h : Sheet) (bytes : List ℕ) (n : ℕ) (p : Pair) → pair_record h bytes n ≡ Given p → (n < h.pairs) × (p ≡ pair h bytes n)
+pair_is : (h : Sheet) (bytes : List ℕ) (n : ℕ) (p : Pair) → pair_record h bytes n ≡ Some p → (n < h.pairs) × (p ≡ pair h bytes n)
 unfolding pair_record there
 pair_is h bytes n p e =
     let g = given (ltb n h.pairs && leb (2 + 4 * n + 4) (length (part_from h.pairs_at bytes))) (pair h bytes n) p e in
@@ -117,7 +117,7 @@ pair_is h bytes n p e =
 
 module _ (I : Instance) (W : WellFormed I) (root_parent : I.parent 0 ≡ 65535) where
   -- each pair comes before the next
-  pub copy_rises : (n : ℕ) (p q : Pair) → pair_record (tidy_sheet I) (tidied I) n ≡ Given p → pair_record (tidy_sheet I) (tidied I) (n + 1) ≡ Given q
+  pub copy_rises : (n : ℕ) (p q : Pair) → pair_record (tidy_sheet I) (tidied I) n ≡ Some p → pair_record (tidy_sheet I) (tidied I) (n + 1) ≡ Some q
       → (p.service < q.service) ⊎ ((p.service ≡ q.service) × (p.cabinet < q.cabinet))
   copy_rises n p q e f =
       let a = pair_is (tidy_sheet I) (tidied I) n p e in

@@ -9,12 +9,24 @@ use Rattle.sheet.specs.Layout.{header_size}
 use Rattle.sheet.specs.Refusals.{first_applying, refusal}
 use Rattle.sheet.specs.Instance.{Instance}
 use Rattle.sheet.specs.declared.Refusal.TheVariants.{Lender}
-use Rattle.tidy.specs.Copy.{cabinets_from, streams_from, streams_end, copy_length, fourth_words, tidy_words, tidied}
+use Rattle.tidy.specs.Copy.{cabinets_from, streams_from, streams_end, length_with, header_words, copy_length, fourth_words, tidy_words, tidied}
 use Rattle.tidy.specs.Answers.{written}
 use Rattle.tidy.specs.Inner.Put.{put}
-use Rattle.tidy.specs.declared.Written.TheVariants.{Bytes, Refused}
+use Rattle.tidy.specs.Inner.Counted.{Counted}
+use Rattle.std.specs.Prelude.{Ok, Err}
 use Rattle.tidy.proofs.Put.{put_more, put_front}
 use Rattle.tidy.proofs.Lengths.{head, services, cabinets, streams, cabinets_ahead, streams_ahead, fourth_ahead, words_length}
+
+-- ---- the counts of a copy
+
+module _ (I : Instance) (r s q n : ℕ) (counts : Counted I r s q n) where
+  pub counted_header : header_words r s q n ≡ head I
+  counted_header = λ k. header_words (counts.services k) (counts.cabinets k) (counts.streams k) (counts.pairs k)
+
+  pub counted_length : length_with r s q n ≡ copy_length I
+  counted_length = λ k. length_with (counts.services k) (counts.cabinets k) (counts.streams k) (counts.pairs k)
+
+-- ---- what is written
 
 module _ (I : Instance) (out : List ℕ) (room : copy_length I ≤ length out) where
   -- one block more, put behind the words that stand there
@@ -39,10 +51,10 @@ module _ (I : Instance) (out : List ℕ) (room : copy_length I ≤ length out) w
 
 -- ---- what is answered
 
-pub too_short : (size n : ℕ) → n < size → Refused (Lender 21) ≡ written size n
+pub too_short : (size n : ℕ) → n < size → Err (Lender 21) ≡ written size n
 unfolding written first_applying refusal
 too_short size n h = rw (lt-ltb n size h) refl
 
-pub long_enough : (size n : ℕ) → size ≤ n → Bytes size ≡ written size n
+pub long_enough : (size n : ℕ) → size ≤ n → Ok size ≡ written size n
 unfolding written first_applying
 long_enough size n h = rw (le-ltb n size h) refl

@@ -1,38 +1,40 @@
 // Words, written into bytes.
-ghost use Rattle.std.specs.Prelude.{◌≡◌, ◌+◌, ◌*◌, ◌/◌, ◌%◌, ◌≤◌, ◌<◌, length};
+ghost use Rattle.std.specs.Prelude.{◌≡◌, ◌+◌, ◌*◌, ◌≤◌, length};
+ghost use Rattle.tidy.specs.Words.{concat_below};
 ghost use Rattle.tidy.specs.Inner.Put.{put};
+ghost use Rattle.tidy.specs.Inner.Columns.{row};
 
-// A number that fits a word.
-pub(crate) fn short(x: usize) -> u16
-    requires { x < 65536 }
-    ensures { result ≡ x }
-{
-    x as u16
-}
-
-fn low(word: u16) -> u8
-    ensures { result ≡ word % 256 }
-{
-    (word % 256) as u8
-}
-
-fn high(word: u16) -> u8
-    ensures { result ≡ word / 256 }
-{
-    (word / 256) as u8
-}
+use records::field;
 
 // Writes words from a byte on, the low byte of each first.
 pub(crate) fn put_words(out: &mut [u8], at: usize, words: &[u16])
     requires { at + 2 * length words.now ≤ length out.old }
     ensures { out.new ≡ put out.old at words.now }
 {
-    let mut k = 0;
-    while k < words.len() {
-        let word = words[k];
+    for (k, word) in words.iter().enumerate() {
+        let [low, high] = word.to_le_bytes();
         let a = at + 2 * k;
-        out[a] = low(word);
-        out[a + 1] = high(word);
-        k += 1;
+        out[a] = low;
+        out[a + 1] = high;
+    }
+}
+
+// Writes record i of so many, one word from each column.
+fn put_record(out: &mut [u8], at: usize, columns: &[&[u16]], count: usize, i: usize)
+    requires { at + 2 * length columns.now ≤ length out.old }
+    ensures { out.new ≡ put out.old at (row count columns.now i) }
+{
+    for (k, column) in columns.iter().enumerate() {
+        put_words(out, at + 2 * k, &[field(column, count, i)]);
+    }
+}
+
+// Writes so many records one behind the other.
+pub(crate) fn put_records(out: &mut [u8], at: usize, columns: &[&[u16]], count: usize)
+    requires { at + 2 * (length columns.now * count) ≤ length out.old }
+    ensures { out.new ≡ put out.old at (concat_below count (row count columns.now)) }
+{
+    for i in 0..count {
+        put_record(out, at + 2 * (columns.len() * i), columns, count, i);
     }
 }

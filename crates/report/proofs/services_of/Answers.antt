@@ -5,9 +5,9 @@ use Rattle.sheet.specs.Reading.{services}
 use Rattle.sheet.proofs.Promises.{well_formed, counts}
 use Rattle.report.proofs.services_of.Goals as goal
 
-pub returns : goal.returns
-returns c =
-    let e = sym c.read-reading.ensures ∙ c.in-Accepted.is in (
+pub returns-in-Ok : goal.returns-in-Ok
+returns-in-Ok c =
+    let e = sym c.read.ensures ∙ c.in-Ok.is in (
       omega (arith, c.services.ensures, (counts _ _ e).0, (well_formed _ _ e).services),
       c.services.ensures ∙ sym (ap services e),
     )

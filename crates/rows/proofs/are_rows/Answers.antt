@@ -25,12 +25,12 @@ pub returns-then-costs-entries : goal.returns-then-costs-entries
 unfolding has_rows
 returns-then-costs-entries c =
     let a = c.args in
-    let e : a.cabinets * c.sets_of.result ≡ a.cabinets * 2 ^ a.services = ap (λ (z : ℕ). a.cabinets * z) c.sets_of.ensures in
+    let e : a.cabinets * c.sets_of.result ≡ a.cabinets * 2 ^ a.services = ap (λ (z : ℕ). a.cabinets * z) (c.sets_of.ensures.power (omega (arith, c.if-services-gt-MAX_SERVICES.false))) in
     rw (le-leb _ max_services c.if-services-gt-MAX_SERVICES.false, le-leb _ max_cabinets c.if-cabinets-gt-MAX_CABINETS.false, le-leb all_sums _ c.if-sums-lt-SUMS.false, lt-leb (a.cabinets * 2 ^ a.services) a.costs (omega (arith, e, c.if-costs-entries.true))) refl
 
 pub returns : goal.returns
 unfolding has_rows
 returns c =
     let a = c.args in
-    let e : a.cabinets * c.sets_of.result ≡ a.cabinets * 2 ^ a.services = ap (λ (z : ℕ). a.cabinets * z) c.sets_of.ensures in
+    let e : a.cabinets * c.sets_of.result ≡ a.cabinets * 2 ^ a.services = ap (λ (z : ℕ). a.cabinets * z) (c.sets_of.ensures.power (omega (arith, c.if-services-gt-MAX_SERVICES.false))) in
     rw (le-leb _ max_services c.if-services-gt-MAX_SERVICES.false, le-leb _ max_cabinets c.if-cabinets-gt-MAX_CABINETS.false, le-leb all_sums _ c.if-sums-lt-SUMS.false, le-leb (a.cabinets * 2 ^ a.services) a.costs (omega (arith, e, c.if-costs-entries.false))) (ap (λ (z : ℕ). leb z a.choices) e)

@@ -23,36 +23,39 @@ roomy e h = passed _ _ _ _ _ (sym e ∙ h)
 few : {r size : ℕ} → size ≡ 2 ^ r → r ≤ max_services → size ≤ max_sets
 few {r} e h = omega (arith, e, let z : 2 ^ r ≤ 2 ^ max_services = pow-le-pow_right {n = 2} (omega arith) h in z)
 
-pub children_of-children-requires : goal.children_of-children-requires
-children_of-children-requires c = (roomy c.are_rows.ensures c.if-not-are_rows.false).cabinets
-
-pub sets_of-size-requires : goal.sets_of-size-requires
-sets_of-size-requires c = (roomy c.are_rows.ensures c.if-not-are_rows.false).services
+pub children_of-requires : goal.children_of-requires
+children_of-requires c = (roomy c.are_rows.ensures c.if-not-are_rows.false).cabinets
 
 pub weigh_sets-requires : goal.weigh_sets-requires
 weigh_sets-requires c =
     let P = roomy c.are_rows.ensures c.if-not-are_rows.false in
-    let s = few c.sets_of-size.ensures P.services in
-    (P.services, s, omega (arith, s))
+    (P.services, omega (arith, few (c.sets_of-size.ensures.power (omega (arith, P.services))) P.services))
 
-pub read_key-requires : goal.read_key-requires
-read_key-requires c =
-    let k = c.args.records in
+pub key-requires : goal.key-requires
+key-requires c =
+    let k = c.args.records.now in
     let u = c.args.choices.now in
     let P = roomy c.are_rows.ensures c.if-not-are_rows.false in
-    let able = root_readable k u c.sets_of-size.ensures P c.children_of-children.ensures c.if-not-children.false c.weigh_sets.ensures
-    (omega (arith, few c.sets_of-size.ensures P.services, c.weigh_sets.auto.weights)) in
-    (tree k, k.cabinets, able, root_started k u (omega (arith, c.if-n-lt1.false)) c.index-child.ensures.0 able)
+    let size = c.sets_of-size.ensures.power (omega (arith, P.services)) in
+    let able = root_readable k u size P c.in-Some.ensures c.weigh_sets.ensures (omega (arith, few size P.services, c.weigh_sets.auto.weights)) in
+    (tree k, k.cabinets, able, root_started k u (omega (arith, c.if-n-lt1.false)) c.from-child.ensures able)
+
+pub overflow_sub-size : goal.overflow_sub-size
+overflow_sub-size c =
+    let P = roomy c.are_rows.ensures c.if-not-are_rows.false in
+    let low : 0 ≤ c.args.records.now.services = omega arith in
+    let one : 2 ^ 0 ≤ 2 ^ c.args.records.now.services = pow-le-pow_right {n = 2} (omega arith) low in
+    omega (arith, one, c.sets_of-size.ensures.power (omega (arith, P.services)))
 
 pub returns : goal.returns
 returns c =
-    let k = c.args.records in
+    let k = c.args.records.now in
     let u = c.args.choices.now in
     let P = roomy c.are_rows.ensures c.if-not-are_rows.false in
-    let able = root_readable k u c.sets_of-size.ensures P c.children_of-children.ensures c.if-not-children.false c.weigh_sets.ensures
-    (omega (arith, few c.sets_of-size.ensures P.services, c.weigh_sets.auto.weights)) in
-    root_keyed k u c.sets_of-size.ensures
+    let size = c.sets_of-size.ensures.power (omega (arith, P.services)) in
+    let able = root_readable k u size P c.in-Some.ensures c.weigh_sets.ensures (omega (arith, few size P.services, c.weigh_sets.auto.weights)) in
+    root_keyed k u size
     (both (leb 1 k.cabinets) _ (le-leb 1 k.cabinets (omega (arith, c.if-n-lt1.false)))
     (both (has_rows k.services k.cabinets all_sums (length u) (length u)) _
-    (sym c.are_rows.ensures ∙ c.if-not-are_rows.false) (sym c.children_of-children.ensures.tested ∙ c.if-not-children.false)))
-    (c.read_key.ensures (tree k) k.cabinets able (root_started k u (omega (arith, c.if-n-lt1.false)) c.index-child.ensures.0 able))
+    (sym c.are_rows.ensures ∙ c.if-not-are_rows.false) c.in-Some.ensures.tested))
+    (c.key.ensures (tree k) k.cabinets able (root_started k u (omega (arith, c.if-n-lt1.false)) c.from-child.ensures able))

@@ -16,12 +16,11 @@ pub record Bounded (h : Sheet) : Type 0 where
   pub pairs : h.pairs < 65536
   pub pairs_at : h.pairs_at < 65536
 
--- each of the first three blocks lies within so many bytes, and there is a cabinet
+-- each of the first three blocks lies within so many bytes
 pub record Inside (h : Sheet) (len : ℕ) : Type 0 where
   pub services : h.services_at + services_size h ≤ len
   pub cabinets : h.cabinets_at + cabinets_size h ≤ len
   pub streams : h.streams_at + streams_size h ≤ len
-  pub root : 1 ≤ h.cabinets
 
 -- so does the fourth; where there is none, a count of no pairs would fit
 abbrev pub PairsInside : Sheet → ℕ → Type 0

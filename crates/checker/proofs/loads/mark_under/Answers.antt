@@ -13,28 +13,25 @@ use Rattle.checker.proofs.loads.mark_under.Goals as goal
 pub loop-d-init : goal.loop-d-init
 loop-d-init c =
     let a = c.args in
-    let p = c.requires in
-    (omega (arith, p.1, (counts a.records).1), marks_start (told a.records) a.c p.0 (omega (arith, p.1, p.2)))
+    marks_start (told a.records.now) a.c c.requires.0 (omega (arith, c.requires.1, c.requires.2))
 
 pub bounds-marks-d : goal.bounds-marks-d
-bounds-marks-d c = omega (arith, c.loop-d-test.true, (counts c.args.records).1, c.requires.2)
-
-pub overflow_add-d-in-loop-d : goal.overflow_add-d-in-loop-d
-overflow_add-d-in-loop-d c = omega (arith, c.loop-d-test.true, (counts c.args.records).1, c.requires.2)
+bounds-marks-d c = omega (arith, c.loop-d-test.true, (counts c.args.records.now).1, c.requires.2)
 
 pub loop-d-preserved : goal.loop-d-preserved
 loop-d-preserved c =
     let a = c.args in
+    let k = a.records.now in
     let l = c.loop-d in
-    let z = c.requires.0 in
     -- the cabinet is there, within the limit
-    let below : l.d < max_cabinets = omega (arith, c.loop-d-test.true, (counts a.records).1, c.requires.2) in
-    let mark = c.is_marked.ensures ∙ ap (λ (k : ℕ). get_or l.marks k false) (c.index-parent.ensures ∙ c.field.ensures ∙ parent_at a.records l.d) in
-    (omega (arith, c.loop-d-test.true), marks_next (told a.records) a.c z l.marks l.d c.is_marked.result below mark l.invariant.1)
+    let below : l.d < max_cabinets = omega (arith, c.loop-d-test.true, (counts k).1, c.requires.2) in
+    let mark = c.is_marked.ensures ∙ ap (λ (k : ℕ). get_or l.marks k false) (c.from-parent.ensures ∙ c.field.ensures ∙ parent_at k l.d) in
+    marks_next (told k) a.c c.requires.0 l.marks l.d c.is_marked.result below mark l.invariant
 
 pub returns : goal.returns
 returns c =
     let a = c.args in
+    let k = a.records.now in
     let l = c.loop-d in
-    let all : l.d ≡ (told a.records).s = omega (arith, l.invariant.0, c.loop-d-test.false, (counts a.records).1) in
-    marks_end (told a.records) a.c c.requires.0 l.marks l.d c.requires.1 (parent_past a.records) all l.invariant.1
+    let all : l.d ≡ (told k).s = omega (arith, l.auto.d-end (omega (arith, c.requires.1, (counts k).1)), c.loop-d-test.false, (counts k).1) in
+    marks_end (told k) a.c c.requires.0 l.marks l.d c.requires.1 (parent_past k) all l.invariant

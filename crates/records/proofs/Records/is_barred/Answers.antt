@@ -14,5 +14,5 @@ returns-then-self-i c = rw (le-ltb _ _ c.if-self-i.true)
 pub returns : goal.returns
 returns c =
     let a = c.args in
-    let there : a.i < a.self.services = omega (arith, c.if-self-i.false) in
-    c.is_in_set.ensures ∙ set_barred a.self a.i a.c there
+    let there : a.i < a.self.now.services = omega (arith, c.if-self-i.false) in
+    c.is_in_set.ensures ∙ set_barred a.self.now a.i a.c there

@@ -14,13 +14,11 @@ loop-i-preserved c =
     let l = c.loop-i in
     let so_far = take l.end l.text in (
       search rules,
-      search rules,
-      search rules,
       one_service so_far _ c.args.plan.now _ l.i (omega arith)
-          (c.put_service-end.ensures.text ∙ ap (λ (n : ℕ). so_far ++ line (decimal l.i) n) c.wide.ensures) l.invariant.3,
+          (c.put_service-end.ensures.text ∙ ap (λ (n : ℕ). so_far ++ line (decimal l.i) n) c.from.ensures) l.invariant.1,
     )
 
 pub returns-clause-text : goal.returns-clause-text
 returns-clause-text c =
     let l = c.loop-i in
-    no_service (take l.end l.text) c.args.plan.now _ l.i (omega arith) l.invariant.3
+    no_service (take l.end l.text) c.args.plan.now _ l.i (omega arith) l.invariant.1

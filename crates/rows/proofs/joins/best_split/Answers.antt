@@ -50,11 +50,11 @@ pub loop-a-preserved : goal.loop-a-preserved
 loop-a-preserved c =
     let g = c.args in
     let inv = c.loop-a.invariant in
-    again (by_key (key_in g.keys.now) (key_in g.child_keys.now) g.x) (figures g.row.now) (figures g.child.now) (figures g.link.now) g.x c.loop-a.a c.loop-a.best c.better-best.result c.weigh-weighed.result c.wins_tie-won.result
+    again (by_key (key_in g.keys.now) (key_in g.child.keys.now) g.x) (figures g.row.now) (figures g.child.row.now) (figures g.child.link.now) g.x c.loop-a.a c.loop-a.best c.better-best.result c.weigh-weighed.result c.wins_tie-won.result
     c.better-best.ensures c.weigh-weighed.ensures c.wins_tie-won.ensures inv.4 inv.1 inv.2 inv.3 (omega (arith, c.if-a-eq0.false)) c.next_subset-a.result c.next_subset-a.ensures
 
 pub returns : goal.returns
 returns c =
     let g = c.args in
-    ends (by_key (key_in g.keys.now) (key_in g.child_keys.now) g.x) (figures g.row.now) (figures g.child.now) (figures g.link.now) g.x c.loop-a.a c.loop-a.best c.better-best.result c.weigh-weighed.result c.wins_tie-won.result
+    ends (by_key (key_in g.keys.now) (key_in g.child.keys.now) g.x) (figures g.row.now) (figures g.child.row.now) (figures g.child.link.now) g.x c.loop-a.a c.loop-a.best c.better-best.result c.weigh-weighed.result c.wins_tie-won.result
     c.better-best.ensures c.weigh-weighed.ensures c.wins_tie-won.ensures c.loop-a.invariant.4 c.if-a-eq0.true

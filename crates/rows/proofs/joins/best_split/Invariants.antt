@@ -8,7 +8,7 @@ use Rattle.rows.specs.Joins.{best_of}
 use Rattle.rows.proofs.joins.best_split.Given as goal
 
 abbrev pub invariant-loop-a : goal.invariant-loop-a
-invariant-loop-a l = (l.a ≤ l.x) × Sub l.a l.x × Sub l.best.chosen l.x × (l.best.counted + l.a ≤ l.x) × (scan (by_key (key_in l.keys) (key_in l.child_keys) l.x) (figures l.row) (figures l.child) (figures l.link) l.x (suc l.a) l.best ≡ best_of l.row l.child l.link l.keys l.child_keys l.x)
+invariant-loop-a l = (l.a ≤ l.x) × Sub l.a l.x × Sub l.best.chosen l.x × (l.best.counted + l.a ≤ l.x) × (scan (by_key (key_in l.keys) (key_in l.child.keys.now) l.x) (figures l.row) (figures l.child.row.now) (figures l.child.link.now) l.x (suc l.a) l.best ≡ best_of l.row l.child.row.now l.child.link.now l.keys l.child.keys.now l.x)
 
 abbrev pub decreases-loop-a : goal.decreases-loop-a
 decreases-loop-a l = l.a

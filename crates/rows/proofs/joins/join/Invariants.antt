@@ -1,11 +1,6 @@
 -- `join` meets its contract, from the last set down.
-use Prim.Native.Nat.{◌≤◌}
-use lib.ListN.{length}
 use Rattle.rows.proofs.Joining.{Partly}
 use Rattle.rows.proofs.joins.join.Given as goal
 
 abbrev pub invariant-loop-x : goal.invariant-loop-x
-invariant-loop-x l = (l.x ≤ length l.initial.row) × Partly l.initial.row l.child l.link l.initial.keys l.child_keys l.x l.row l.choice l.keys l.count
-
-abbrev pub decreases-loop-x : goal.decreases-loop-x
-decreases-loop-x l = l.x
+invariant-loop-x l = Partly l.initial.row l.child.row.now l.child.link.now l.initial.keys l.child.keys.now l.x l.row l.choice l.keys l.count

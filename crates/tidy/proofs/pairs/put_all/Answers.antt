@@ -1,53 +1,68 @@
--- `put_all` meets its contract. The invariant: the pairs of the services passed stand there, and the next place is behind them.
-use Prim.Native.Nat.{ℕ, ◌+◌, ◌≤◌, ◌<◌}
+-- `put_all` meets its contract. The invariants: the pairs passed stand there, and the next place is behind them.
+use Prim.Native.Nat.{ℕ, ◌+◌, ◌*◌, ◌≤◌}
 use native.Mathlib.Omega.{arith}
-use mathlib.Core.Path.{◌≡◌, refl, ap, ◌∙◌}
-use borrow.Author.Rules.{rules}
-use mathlib.Core.List.{List}
-use Rattle.finite.specs.Below.{sum_below}
-use Rattle.finite.proofs.Sums.{sum_start, sum_next, sum_part}
-use Rattle.sheet.specs.Instance.{Instance}
+use mathlib.Core.Path.{◌≡◌, sym, ap, ◌∙◌, subst}
+use lib.ListN.{length}
 use Rattle.records.specs.Told.{told}
+use Rattle.records.proofs.Bars.{set_barred}
 use Rattle.tidy.specs.Words.{concat_below}
-use Rattle.tidy.specs.Copy.{service_pairs, service_count, pair_words, pair_count}
+use Rattle.tidy.specs.Copy.{service_pairs, pair_words, service_count}
 use Rattle.tidy.specs.Inner.Put.{put}
-use Rattle.tidy.proofs.Barred.{pieces_length, service_length}
-use Rattle.tidy.proofs.Put.{record_start, record_next}
+use Rattle.tidy.proofs.Putting.{Within, within_start, within_taken, within_passed, through_start, service_room, pair_fits, through_next}
 use Rattle.tidy.proofs.pairs.put_all.Goals as goal
-
--- the pairs of the services up to i take no more room than all
-so_far : (I : Instance) (i : ℕ) → i < I.r → sum_below i (service_count I) + service_count I i ≤ pair_count I
-unfolding pair_count
-so_far I i h = omega (arith, sum_next i (service_count I), sum_part (i + 1) I.r (service_count I) (omega arith))
+use Rattle.tidy.proofs.pairs.put_all.Goals.{then-is_in_set, else-is_in_set}
 
 pub loop-i-init : goal.loop-i-init
-unfolding told
-loop-i-init c = (refl, omega arith, refl, omega (arith, sum_start (service_count (told c.args.records))), record_start _ _ _)
+loop-i-init c = through_start _ _ _
 
-pub put_of_service-next-requires : goal.put_of_service-next-requires
-put_of_service-next-requires c =
-    let l = c.loop-i in
-    let a = c.args in
-    let f = so_far (told a.records) l.i (omega (arith, l.invariant.0)) in
-    (omega (arith, l.invariant.0), c.requires.0, c.requires.1, omega (arith, f, c.requires.2, l.invariant.2, l.invariant.3))
+pub loop-c-init : goal.loop-c-init
+loop-c-init c = within_start _ _ _ _
+
+pub overflow_cast-i : goal.overflow_cast-i
+unfolding told
+overflow_cast-i c = omega arith
+
+pub overflow_cast-c : goal.overflow_cast-c
+unfolding told
+overflow_cast-c c = omega arith
+
+pub put_words-requires : goal.put_words-requires
+unfolding told
+put_words-requires c =
+    let k = c.args.records.now in
+    let t = sym (c.is_in_set.ensures ∙ set_barred k c.loop-i.i c.loop-c.c c.loop-i-test.true) ∙ c.if-is_in_set.true in
+    omega (arith, pair_fits (told k) _ _ _ _ _ c.loop-i.invariant c.requires.2 c.loop-i-test.true _ _ _ c.loop-c.invariant c.loop-c-test.true t)
+
+pub overflow_add-next : goal.overflow_add-next
+unfolding told
+overflow_add-next c =
+    let k = c.args.records.now in
+    let t = sym (c.is_in_set.ensures ∙ set_barred k c.loop-i.i c.loop-c.c c.loop-i-test.true) ∙ c.if-is_in_set.true in
+    omega (arith, pair_fits (told k) _ _ _ _ _ c.loop-i.invariant c.requires.2 c.loop-i-test.true _ _ _ c.loop-c.invariant c.loop-c-test.true t)
+
+pub loop-c-preserved : goal.loop-c-preserved
+unfolding told
+loop-c-preserved c =
+    let k = c.args.records.now in
+    let room = service_room (told k) _ _ _ _ _ c.loop-i.invariant c.requires.2 c.loop-i-test.true in
+    let here : c.loop-i.next + 4 * service_count (told k) c.loop-i.i ≤ length c.loop-i.out = omega (arith, room) in
+    let b = sym (c.is_in_set.ensures ∙ set_barred k c.loop-i.i c.loop-c.c c.loop-i-test.true) in
+    elim c.if-is_in_set.branch [
+      | then-is_in_set w ↦ within_taken (told k) _ _ _ _ _ _ c.loop-c.invariant c.loop-c-test.true here _ _ (b ∙ w.if-is_in_set.true) w.next-is (w.out-is ∙ w.put_words.ensures)
+      | else-is_in_set w ↦ within_passed (told k) _ _ _ _ _ _ c.loop-c.invariant c.loop-c-test.true here _ _ (b ∙ w.if-is_in_set.false) w.next-is w.out-is
+    ]
 
 pub loop-i-preserved : goal.loop-i-preserved
+unfolding told
 loop-i-preserved c =
-    let l = c.loop-i in
-    let a = c.args in
-    let I = told a.records in
-    let f = so_far I l.i (omega (arith, l.invariant.0)) in
-    let k = pieces_length (service_pairs I) (service_count I) (service_length I) l.i in
-    let e =
-    c.put_of_service-next.ensures.out
-    ∙ ap (λ (o : List ℕ). put o l.next (service_pairs I l.i)) l.invariant.4
-    ∙ record_next (service_pairs I) a.out.now a.at l.i l.next (omega (arith, k, f, c.requires.2)) (omega (arith, k, l.invariant.3)) in
-    (l.invariant.0, omega arith, search rules, omega (arith, c.put_of_service-next.ensures.next, l.invariant.3, sum_next l.i (service_count I)), e)
+    let I = told c.args.records.now in
+    let e : c.loop-c.c ≡ I.s = omega arith in
+    through_next I _ _ _ _ _ c.loop-i.invariant c.requires.2 c.loop-i-test.true _ _
+    (subst (λ (n : ℕ). Within I c.loop-i.out c.loop-i.next c.loop-i.i n c.loop-c.next c.loop-c.out) e c.loop-c.invariant)
 
 pub returns : goal.returns
-unfolding pair_words
+unfolding told pair_words
 returns c =
-    let l = c.loop-i in
-    let a = c.args in
-    let I = told a.records in
-    l.invariant.4 ∙ ap (λ (m : ℕ). put a.out.now a.at (concat_below m (service_pairs I))) (let e : l.i ≡ I.r = omega (arith, l.invariant.0, l.invariant.1) in e)
+    let I = told c.args.records.now in
+    let e : c.loop-i.i ≡ I.r = omega arith in
+    c.loop-i.invariant.bytes_put ∙ ap (λ (n : ℕ). put c.args.out.now c.args.at (concat_below n (service_pairs I))) e

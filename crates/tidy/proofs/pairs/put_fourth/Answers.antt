@@ -14,29 +14,26 @@ use Rattle.tidy.proofs.pairs.put_fourth.Goals as goal
 pub returns-then-pairs-eq0 : goal.returns-then-pairs-eq0
 returns-then-pairs-eq0 c =
     let a = c.args in
-    sym (ap (put a.out.now a.at) (no_words (told a.records) (omega (arith, c.requires.2))) ∙ put_none a.out.now a.at)
+    sym (ap (put a.out.now a.at) (no_words (told a.records.now) (omega (arith, c.requires.2))) ∙ put_none a.out.now a.at)
 
 pub put_words-requires : goal.put_words-requires
 put_words-requires c = omega (arith, some_size c.args.pairs (omega arith), c.requires.4)
-
-pub overflow_add-at : goal.overflow_add-at
-overflow_add-at c = omega (arith, some_size c.args.pairs (omega arith), c.requires.4)
 
 pub put_all-requires : goal.put_all-requires
 put_all-requires c =
     let a = c.args in
     let h = some_size a.pairs (omega arith) in
     let n : length c.put_words.new.out ≡ length a.out.now =
-    ap length c.put_words.ensures ∙ put_length a.out.now a.at (c.short.result ∷ []) (omega (arith, h, c.requires.4)) in
+    ap length c.put_words.ensures ∙ put_length a.out.now a.at (a.pairs ∷ []) (omega (arith, h, c.requires.4)) in
     (c.requires.0, c.requires.1, omega (arith, n, h, c.requires.2, c.requires.4))
 
 pub returns : goal.returns
 returns c =
     let a = c.args in
-    let I = told a.records in
+    let I = told a.records.now in
     let h = some_size a.pairs (omega arith) in
     let o = a.out.now in
-    let w : c.short.result ≡ pair_count I = c.short.ensures ∙ c.requires.2 in
+    let w : a.pairs ≡ pair_count I = c.requires.2 in
     c.put_all.ensures
     ∙ ap (λ (x : List ℕ). put x (a.at + 2) (pair_words I)) (c.put_words.ensures ∙ ap (λ (n : ℕ). put o a.at (n ∷ [])) w)
     ∙ put_more o a.at (pair_count I ∷ []) (omega (arith, h, c.requires.4)) (pair_words I) (a.at + 2) (omega arith)
