@@ -1,6 +1,7 @@
 // Reads a planning sheet from standard input and prints its counts and records, or the refusal.
 #![tactic(auto)]
 
+use output::Output;
 use sheet::Sheet;
 use std::io::Error;
 
@@ -82,9 +83,9 @@ fn describe(rt: &impl Print, bytes: &[u8]) -> Result<(), Error> {
     print_pairs(rt, sheet, bytes)
 }
 
-fn main(rt: HostRuntime) {
+fn main() {
     let mut bytes = [0u8; LONGEST + 1];
     let n = io::read_full(0, &mut bytes);
     // An output that takes no more is no failure of this program.
-    let _ = describe(&rt, &bytes[..n]);
+    let _ = describe(&Output, &bytes[..n]);
 }

@@ -1,6 +1,7 @@
 // Runs the reader on sheets made from road M and prints the refusal of each, 0 for an accepted sheet.
 #![tactic(auto)]
 
+use output::Output;
 use std::io::Error;
 
 mod pairs; // pairs.rt: sheets with a fourth block
@@ -195,7 +196,7 @@ fn run(rt: &impl Print) -> Result<(), Error> {
     pairs::run(rt)
 }
 
-fn main(rt: HostRuntime) {
+fn main() {
     // An output that takes no more is no failure of this program.
-    let _ = run(&rt);
+    let _ = run(&Output);
 }

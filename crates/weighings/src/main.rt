@@ -2,6 +2,7 @@
 // the largest number.
 #![tactic(auto)]
 
+use output::Output;
 use std::io::Error;
 
 // The figures tried: small costs, the numbers around 10^15, and large numbers.
@@ -53,7 +54,7 @@ fn all(rt: &impl Print) -> Result<(), Error> {
     powers(rt)
 }
 
-fn main(rt: HostRuntime) {
+fn main() {
     // An output that takes no more is no failure of this program.
-    let _ = all(&rt);
+    let _ = all(&Output);
 }
