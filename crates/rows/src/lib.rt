@@ -70,6 +70,7 @@ fn rebuild<'a>(
     costs: &mut [u64],
     choices: &mut [u16],
     room: &mut Room,
+    child_keys: &mut [Key; SETS],
     from: Sources<'a>,
     kept: Kept,
     p: usize,
@@ -103,8 +104,8 @@ fn rebuild<'a>(
             weights: from.weights,
             size,
         };
-        kept.fetch_keys(&mut room.child_keys, &room.keys, &placings, p, d);
-        count += join_child(costs, choices, room, from, p, d, q);
+        kept.fetch_keys(child_keys, &room.keys, &placings, p, d);
+        count += join_child(costs, choices, room, child_keys, from, p, d, q);
     }
     count
 }
@@ -159,8 +160,8 @@ fn rebuild_rows<'a>(
         keys: [NO_KEY; KEYS],
         child: [0; SETS],
         link: [0; SETS],
-        child_keys: [NO_KEY; SETS],
     };
+    let mut child_keys = [NO_KEY; SETS];
     let from = Sources {
         records,
         sums,
@@ -173,7 +174,7 @@ fn rebuild_rows<'a>(
     let mut q = first;
     loop {
         let kept = Kept { rows, near };
-        count += rebuild(costs, choices, &mut room, from, kept, q);
+        count += rebuild(costs, choices, &mut room, &mut child_keys, from, kept, q);
         if q == 0 {
             break;
         }

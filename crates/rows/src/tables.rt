@@ -28,13 +28,13 @@ pub(crate) struct Sources<'a> {
     pub(crate) size: usize,
 }
 
-// Room on the way: for the rows of keys that are kept, and for a child's row, what the link above it charges, and its keys.
+// Room on the way: for the rows of keys that are kept, and for a child's row and what the link above it charges. The child's keys stand apart from it: a row
+// of keys is copied there, which in one struct would be a copy within one piece of memory, and need memmove of whoever links the archive.
 #[derive(Drop)]
 pub(crate) struct Room {
     pub(crate) keys: [Key; KEYS],
     pub(crate) child: [u64; SETS],
     pub(crate) link: [u64; SETS],
-    pub(crate) child_keys: [Key; SETS],
 }
 
 // Which rows of keys are kept while the row of p is rebuilt: there is room for `rows`, that of cabinet d is row d % rows, and those of the cabinets
@@ -79,6 +79,7 @@ pub(crate) fn join_child<'a>(
     costs: &mut [u64],
     choices: &mut [u16],
     room: &mut Room,
+    child_keys: &[Key; SETS],
     from: Sources<'a>,
     p: usize,
     c: usize,
@@ -86,9 +87,9 @@ pub(crate) fn join_child<'a>(
 ) -> u64
     requires room { JoinRoom from.size p c q costs.old choices.old room.old.keys }
     requires cabinet { (c < from.records.now.cabinets) × (from.records.now.cabinets ≤ max_cabinets) × (all_sums ≤ length from.sums.now) }
-    requires small { Small from.size room.old.child_keys × ((x : ℕ) → x < from.size → Addable (key_entry from.size room.old.keys q x)) }
+    requires small { Small from.size child_keys.now × ((x : ℕ) → x < from.size → Addable (key_entry from.size room.old.keys q x)) }
     ensures length { length room.new.keys ≡ length room.old.keys }
-    ensures joined { JoinsChild (link_of from.entry.records.now c) from.entry.size p c q from.entry.sums.now (key_in room.old.child_keys)
+    ensures joined { JoinsChild (link_of from.entry.records.now c) from.entry.size p c q from.entry.sums.now (key_in child_keys.now)
         costs.old costs.new choices.old choices.new room.old.keys room.new.keys result }
 {
     let size = from.size;
@@ -107,7 +108,7 @@ pub(crate) fn join_child<'a>(
         Child {
             row: &room.child,
             link: &room.link,
-            keys: &room.child_keys,
+            keys: child_keys,
         },
     );
     choices[below] = count as u16;
