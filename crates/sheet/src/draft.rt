@@ -26,8 +26,11 @@ pub(crate) struct Blocks<'a> {
     ghost inside: { Inside draft.sheet (length draft.bytes.now) },
 }
 
+// Each group of refusals is a function of its own in what is built, too (`inline(never)`): as parts of one, each turn of a loop over a block would also put in
+// place what the refusal after it answers, and a sheet of 2,000 pairs take three times as long to read.
 impl Draft<'_> {
     // Refusals 4 and 5, where 1 to 3 do not apply.
+    #[inline(never)]
     pub(crate) fn read_blocks(&self) -> Result<Sheet, Refusal>
         ensures { result ≡ answered (first_applying (drop 3 (rules self.now.bytes.now))) self.now.sheet }
     {
@@ -41,6 +44,7 @@ impl Draft<'_> {
     }
 
     // Refusals 18 and 19, where 1 to 9 do not apply.
+    #[inline(never)]
     fn read_pairs(&self) -> Result<Sheet, Refusal>
         ensures { result ≡ answered (first_applying (drop 9 (rules self.now.bytes.now))) self.now.sheet }
     {
